@@ -1,0 +1,20 @@
+use borrow.Author.Needs.{needs}
+use Rattle.count.specs.Count.{e2}
+use Rattle.count.proofs.e2.Statement.{statement}
+use Rattle.count.proofs.e2.Tie as tie
+
+same-position-requires : tie.Need-same-position-requires
+same-position-requires c κs = search needs
+
+returns : tie.Need-returns
+unfolding e2
+returns c =
+    simp (← c .before .same-position .ensures, c .if1 .taken)
+
+returns-2 : tie.Need-returns-2
+unfolding e2
+returns-2 c =
+    simp (← c .before .same-position .ensures, c .if1 .left)
+
+pub e2-spec : {M : Type 1} → statement M
+e2-spec = tie.close (tie.spec same-position-requires returns returns-2)

@@ -1,0 +1,99 @@
+// The loads of a length, L1 to L3, and of an empty, E1 and E2: one function a line, one shared access each.
+// None touches the lent memory (specs/Laws.antt).
+use index::Index;
+use state::Answer;
+use state::Call;
+use state::EmptyLine;
+use state::LengthLine;
+use state::Made;
+use state::Queue;
+ghost use mathlib.Core.Path.{_≡_};
+ghost use Rattle.count.specs.Count as spec;
+
+fn l1(q: Queue) -> Made
+    ensures { λ r. ⌜ r ≡ spec.l1 q .made ⌝ }
+{
+    let tail = q.tail;
+    Made {
+        queue: q,
+        call: Call::Length(LengthLine::L2(tail)),
+        answer: Answer::Open,
+    }
+}
+
+fn l2(q: Queue, tail: Index) -> Made
+    ensures { λ r. ⌜ r ≡ spec.l2 q tail .made ⌝ }
+{
+    let head = q.head;
+    Made {
+        queue: q,
+        call: Call::Length(LengthLine::L3(tail, head)),
+        answer: Answer::Open,
+    }
+}
+
+fn l3(q: Queue, tail: Index, head: Index) -> Made
+    ensures { λ r. ⌜ r ≡ spec.l3 q tail head .made ⌝ }
+{
+    let seen = q.tail;
+    if seen.raw == tail.raw {
+        return Made {
+            queue: q,
+            call: Call::Idle,
+            answer: Answer::Len(index::length(tail, head)),
+        };
+    }
+    Made {
+        queue: q,
+        call: Call::Length(LengthLine::L1),
+        answer: Answer::Open,
+    }
+}
+
+fn e1(q: Queue) -> Made
+    ensures { λ r. ⌜ r ≡ spec.e1 q .made ⌝ }
+{
+    let head = q.head;
+    Made {
+        queue: q,
+        call: Call::Empty(EmptyLine::E2(head)),
+        answer: Answer::Open,
+    }
+}
+
+fn e2(q: Queue, head: Index) -> Made
+    ensures { λ r. ⌜ r ≡ spec.e2 q head .made ⌝ }
+{
+    let tail = q.tail;
+    if index::same_position(head, tail) {
+        return Made {
+            queue: q,
+            call: Call::Idle,
+            answer: Answer::Yes,
+        };
+    }
+    Made {
+        queue: q,
+        call: Call::Idle,
+        answer: Answer::No,
+    }
+}
+
+pub fn length(q: Queue, line: LengthLine) -> Made
+    ensures { λ r. ⌜ r ≡ spec.length q line .made ⌝ }
+{
+    match line {
+        LengthLine::L1 => l1(q),
+        LengthLine::L2(tail) => l2(q, tail),
+        LengthLine::L3(tail, head) => l3(q, tail, head),
+    }
+}
+
+pub fn empty(q: Queue, line: EmptyLine) -> Made
+    ensures { λ r. ⌜ r ≡ spec.empty q line .made ⌝ }
+{
+    match line {
+        EmptyLine::E1 => e1(q),
+        EmptyLine::E2(head) => e2(q, head),
+    }
+}

@@ -1,0 +1,5 @@
+pub mod Answers
+pub mod Move
+pub mod MoveLaws
+pub mod List
+pub mod ListLaws

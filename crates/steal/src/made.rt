@@ -1,0 +1,69 @@
+// What a line makes: its call goes on at a line or ends. And of a claim: its slots.
+use index::BLOCK_CAP;
+use state::{Answer, Call, Claim, Made, Queue, StealLine, Stepped, Thread, Won};
+ghost use mathlib.Core.Path.{_≡_};
+ghost use Prim.Native.Nat.{_+_, _≤_};
+ghost use Rattle.index.specs.Position.{position, offset};
+ghost use Rattle.memory.specs.Touch.{leaves};
+ghost use Rattle.state.specs.Move.{ends, settle};
+ghost use Rattle.steal.specs.Steal as spec;
+
+pub(crate) fn to(q: Queue, line: StealLine) -> Made
+    ensures { λ r. ⌜ r ≡ spec.to q line leaves .made ⌝ }
+{
+    Made {
+        queue: q,
+        call: Call::Steal(line),
+        answer: Answer::Open,
+    }
+}
+
+pub(crate) fn ends(q: Queue, answer: Answer) -> Made
+    ensures { λ r. ⌜ r ≡ ends q answer leaves .made ⌝ }
+{
+    Made {
+        queue: q,
+        call: Call::Idle,
+        answer,
+    }
+}
+
+// A line that changes of its thread the call alone.
+pub(crate) fn settle(thread: Thread, made: Made) -> Stepped
+    ensures { λ r. ⌜ r ≡ settle thread made ⌝ }
+{
+    let queue = made.queue;
+    let call = made.call;
+    let answer = made.answer;
+    let ring = thread.ring;
+    let taken = thread.taken;
+    Stepped {
+        queue,
+        thread: Thread { ring, call, taken },
+        answer,
+    }
+}
+
+pub(crate) fn first(claim: Claim) -> u64
+    ensures { λ r. ⌜ r ≡ spec.first claim ⌝ }
+{
+    claim.head.offset()
+}
+
+// The sum fits: a claim on the list does not go past its block's end.
+pub(crate) fn past(claim: Claim) -> u64
+    requires { ⌜ spec.past claim ≤ 63 ⌝ }
+    ensures { λ r. ⌜ r ≡ spec.past claim ⌝ }
+{
+    first(claim) + claim.advance
+}
+
+// The slot below the first claimed one is where the walk starts; past slot 0 the block is given back.
+pub(crate) fn walk_below(won: Won, block: u64, slot: u64) -> StealLine
+    ensures { λ r. ⌜ r ≡ spec.walkBelow won block slot ⌝ }
+{
+    if slot == 0 {
+        return StealLine::S14(won, block);
+    }
+    StealLine::S12(won, block, slot - 1)
+}
