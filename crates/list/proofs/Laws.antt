@@ -20,14 +20,6 @@ told-true {a} {x} e h = sym e ∙ not-false x h
 pub told-false : {a x : Bool} → x ≡ a → not x ≡ true → a ≡ false
 told-false {a} {x} e h = sym e ∙ not-true x h
 
-pub left-true : (a b : Bool) → (a && b) ≡ true → a ≡ true
-left-true true b h = refl
-left-true false b h = h
-
-pub right-true : (a b : Bool) → (a && b) ≡ true → b ≡ true
-right-true true b h = h
-right-true false b h = cc
-
 same : (p q : Bool) → (p ≡ true → q ≡ true) → (q ≡ true → p ≡ true) → p ≡ q
 same true q f g = sym (f refl)
 same false true f g = g refl

@@ -1,6 +1,8 @@
 // The list's items that a record's call carries: its block numbers, the indices it loaded, its claim and its slot.
 use super::limit_good;
 use super::room_good;
+use index::Index;
+use memory::MaybeBlock;
 use state::Claim;
 use state::EmptyLine;
 use state::Kind;
@@ -8,8 +10,6 @@ use state::LengthLine;
 use state::PushLine;
 use state::Queue;
 use state::StealLine;
-use index::Index;
-use memory::MaybeBlock;
 ghost use mathlib.Core.Path.{_≡_};
 ghost use mathlib.Core.Bool.{_&&_};
 ghost use lib.Dec.{ltb};

@@ -2,11 +2,11 @@
 // function answers true where its part of the list is not broken, and no test asks anything of what it is handed.
 mod calls;
 
+use memory::MaybeBlock;
 use state::Call;
 use state::Kind;
 use state::Queue;
 use state::Thread;
-use memory::MaybeBlock;
 ghost use mathlib.Core.Path.{_≡_};
 ghost use mathlib.Core.Bool.{_&&_};
 ghost use Prim.Native.Nat.{_+_, min};

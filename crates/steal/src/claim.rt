@@ -1,7 +1,19 @@
 // S1 to S4: load the head, look whether there is something to take, claim it.
-use super::made::{ends, first, past, to};
-use index::{BLOCK_CAP, Index, batch_advance, same_position, to_block_end};
-use state::{Answer, Claim, Kind, Made, Queue, StealLine};
+use super::made::ends;
+use super::made::first;
+use super::made::past;
+use super::made::to;
+use index::BLOCK_CAP;
+use index::Index;
+use index::batch_advance;
+use index::same_position;
+use index::to_block_end;
+use state::Answer;
+use state::Claim;
+use state::Kind;
+use state::Made;
+use state::Queue;
+use state::StealLine;
 ghost use mathlib.Core.Path.{_≡_};
 ghost use mathlib.Core.Bool.{true};
 ghost use Prim.Native.Nat.{_*_, _≤_};
@@ -86,11 +98,11 @@ pub(crate) fn s4(q: Queue, kind: Kind, claim: Claim, next: bool) -> Made
         return ends(q, Answer::Retry);
     }
     let new_head = head.advance(claim.advance).with_next(next);
-    let mut won = q;
-    won.head = new_head;
+    let mut moved = q;
+    moved.head = new_head;
     if past(claim) == BLOCK_CAP {
-        return to(won, StealLine::S5(kind, claim));
+        return to(moved, StealLine::S5(kind, claim));
     }
     let slot = first(claim);
-    to(won, StealLine::S9(kind, claim, slot))
+    to(moved, StealLine::S9(kind, claim, slot))
 }

@@ -1,7 +1,12 @@
 // S5 to S8: a claim that ends its block moves the head on to the next block.
-use super::made::{first, to};
+use super::made::first;
+use super::made::to;
 use memory::MaybeBlock;
-use state::{Claim, Kind, Made, Queue, StealLine};
+use state::Claim;
+use state::Kind;
+use state::Made;
+use state::Queue;
+use state::StealLine;
 ghost use mathlib.Core.Path.{_≡_};
 ghost use mathlib.Core.Bool.{true};
 ghost use Prim.Native.Nat.{_*_, _≤_};
@@ -32,9 +37,9 @@ pub(crate) fn s6(q: Queue, pool: &[u64], kind: Kind, claim: Claim, next: u64) ->
 pub(crate) fn s7(q: Queue, kind: Kind, claim: Claim, next: u64, more: bool) -> Made
     ensures { λ r. ⌜ r ≡ spec.s7 q kind claim next more .made ⌝ }
 {
-    let mut left = q;
-    left.head_block = next;
-    to(left, StealLine::S8(kind, claim, more))
+    let mut moved = q;
+    moved.head_block = next;
+    to(moved, StealLine::S8(kind, claim, more))
 }
 
 // The next index fits: the claim ends at the tail or before, and the tail's lap is at most the ceiling.
@@ -46,8 +51,8 @@ pub(crate) fn s8(q: Queue, kind: Kind, claim: Claim, more: bool) -> Made
 {
     let head = claim.head;
     let next_index = head.advance(claim.advance).leave_lap(more);
-    let mut left = q;
-    left.head = next_index;
+    let mut moved = q;
+    moved.head = next_index;
     let slot = first(claim);
-    to(left, StealLine::S9(kind, claim, slot))
+    to(moved, StealLine::S9(kind, claim, slot))
 }

@@ -4,12 +4,26 @@ mod leave; // S5 to S8
 mod made;
 mod mark; // S11 to S14
 mod read; // S9 and S10
-use claim::{s1, s2, s3, s4};
-use leave::{s5, s6, s7, s8};
+
+use claim::s1;
+use claim::s2;
+use claim::s3;
+use claim::s4;
+use leave::s5;
+use leave::s6;
+use leave::s7;
+use leave::s8;
 use made::settle;
-use mark::{s11, s12, s13, s14};
-use read::{s9, s10};
-use state::{Queue, StealLine, Stepped, Thread};
+use mark::s11;
+use mark::s12;
+use mark::s13;
+use mark::s14;
+use read::s9;
+use read::s10;
+use state::Queue;
+use state::StealLine;
+use state::Stepped;
+use state::Thread;
 ghost use mathlib.Core.Path.{_≡_};
 ghost use mathlib.Core.Bool.{true};
 ghost use Prim.Native.Nat.{_*_, _≤_};

@@ -1,9 +1,15 @@
 // What a line makes: its call goes on at a line or ends. And of a claim: its slots.
-use index::BLOCK_CAP;
-use state::{Answer, Call, Claim, Made, Queue, StealLine, Stepped, Thread, Won};
+use state::Answer;
+use state::Call;
+use state::Claim;
+use state::Made;
+use state::Queue;
+use state::StealLine;
+use state::Stepped;
+use state::Thread;
+use state::Won;
 ghost use mathlib.Core.Path.{_≡_};
-ghost use Prim.Native.Nat.{_+_, _≤_};
-ghost use Rattle.index.specs.Position.{position, offset};
+ghost use Prim.Native.Nat.{_≤_};
 ghost use Rattle.memory.specs.Touch.{leaves};
 ghost use Rattle.state.specs.Move.{ends, settle};
 ghost use Rattle.steal.specs.Steal as spec;

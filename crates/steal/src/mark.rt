@@ -1,7 +1,16 @@
 // S11 to S14: mark the claimed slots read, and destroy the block: the walk down, and its return to the pool.
-use super::made::{ends, first, past, to, walk_below};
+use super::made::ends;
+use super::made::first;
+use super::made::past;
+use super::made::to;
+use super::made::walk_below;
 use memory::Mark;
-use state::{Answer, Claim, Made, Queue, StealLine, Won};
+use state::Answer;
+use state::Claim;
+use state::Made;
+use state::Queue;
+use state::StealLine;
+use state::Won;
 ghost use mathlib.Core.Path.{_≡_};
 ghost use mathlib.Core.Bool.{true};
 ghost use Rattle.memory.specs.Touch.{after};
@@ -24,10 +33,10 @@ pub(crate) fn s11(q: Queue, pool: &mut [u64], won: Won, claim: Claim, slot: u64)
     ensures { λ r. ⌜ r ≡ spec.s11 q (now (pool .entry)) won claim slot .made ⌝ }
     ensures { λ _. ⌜ now (pool .exit) ≡ after (now (pool .entry)) (spec.s11 q (now (pool .entry)) won claim slot .touch) ⌝ }
 {
-    let state = memory::fetch_or(pool, claim.block, slot, Mark::Read);
-    if memory::has(state, Mark::Destroy) {
-        let below = first(claim);
-        return to(q, walk_below(won, claim.block, below));
+    let before = memory::fetch_or(pool, claim.block, slot, Mark::Read);
+    if memory::has(before, Mark::Destroy) {
+        let lowest = first(claim);
+        return to(q, walk_below(won, claim.block, lowest));
     }
     if slot + 1 == past(claim) {
         return ends(q, answer_of(won));
@@ -49,8 +58,8 @@ pub(crate) fn s13(q: Queue, pool: &mut [u64], won: Won, block: u64, slot: u64) -
     ensures { λ r. ⌜ r ≡ spec.s13 q (now (pool .entry)) won block slot .made ⌝ }
     ensures { λ _. ⌜ now (pool .exit) ≡ after (now (pool .entry)) (spec.s13 q (now (pool .entry)) won block slot .touch) ⌝ }
 {
-    let state = memory::fetch_or(pool, block, slot, Mark::Destroy);
-    if memory::has(state, Mark::Read) {
+    let before = memory::fetch_or(pool, block, slot, Mark::Destroy);
+    if memory::has(before, Mark::Read) {
         return to(q, walk_below(won, block, slot));
     }
     ends(q, answer_of(won))

@@ -1,8 +1,20 @@
 // S9 and S10: wait for each claimed slot, read it, and hand the tokens over with the last.
-use super::made::{first, past, to, walk_below};
+use super::made::first;
+use super::made::past;
+use super::made::to;
+use super::made::walk_below;
 use index::BLOCK_CAP;
 use memory::Mark;
-use state::{Answer, Call, Claim, Kind, Made, Queue, StealLine, Stepped, Thread, Won};
+use state::Answer;
+use state::Call;
+use state::Claim;
+use state::Kind;
+use state::Made;
+use state::Queue;
+use state::StealLine;
+use state::Stepped;
+use state::Thread;
+use state::Won;
 ghost use mathlib.Core.Path.{_≡_};
 ghost use mathlib.Core.Bool.{true};
 ghost use Prim.Native.Nat.{_≤_};
@@ -56,7 +68,14 @@ fn after_reads(won: Won, claim: Claim) -> StealLine
 
 // The list was tested before the step: the slot is one of the claim, so that its place is one of `taken`,
 // and the ring has room for what it is handed.
-pub(crate) fn s10(q: Queue, pool: &[u64], thread: Thread, kind: Kind, claim: Claim, slot: u64) -> Stepped
+pub(crate) fn s10(
+    q: Queue,
+    pool: &[u64],
+    thread: Thread,
+    kind: Kind,
+    claim: Claim,
+    slot: u64,
+) -> Stepped
     requires { ⌜ stealGood q (thread .ring .count) (StealLine.S10 kind claim slot) ≡ true ⌝ }
     requires { ⌜ thread .ring .count ≤ 64 ⌝ }
     ensures { λ r. ⌜ r ≡ spec.s10 q (now (pool .entry)) thread kind claim slot ⌝ }

@@ -18,8 +18,7 @@ within-requires-3 c κs = search needs
 
 returns-2 : tie.Need-returns-2
 returns-2 c =
-    rw
-    (
+    rw (
       told-true (c .before .before .before .before .within .ensures) (c .before .before .before .if1 .left),
       sym (c .before .before .within2 .ensures) ∙ c .before .if2 .taken,
     )
@@ -27,8 +26,7 @@ returns-2 c =
 
 returns-3 : tie.Need-returns-3
 returns-3 c =
-    rw
-    (
+    rw (
       told-true (c .before .before .before .within .ensures) (c .before .before .if1 .left),
       sym (c .before .within2 .ensures) ∙ c .if2 .left,
     )

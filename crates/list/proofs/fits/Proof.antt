@@ -10,12 +10,12 @@ returns : tie.Need-returns
 returns c = let a = c .before .args in sym (lt-leb (a .count + min (a .limit) 63) (a .cells) (omega arith))
 
 returns-2 : tie.Need-returns-2
-returns-2 c = 
+returns-2 c =
     let a = c .before .before .args in
     same-test (a .limit) (a .cells - a .count) (a .count + min (a .limit) 63) (a .cells) (λ h. omega arith) (λ h. omega arith)
 
 returns-3 : tie.Need-returns-3
-returns-3 c = 
+returns-3 c =
     let a = c .before .before .args in
     same-test 63 (a .cells - a .count) (a .count + min (a .limit) 63) (a .cells) (λ h. omega arith) (λ h. omega arith)
 

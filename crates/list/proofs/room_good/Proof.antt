@@ -37,7 +37,7 @@ returns-2 : tie.Need-returns-2
 returns-2 c = rw (c .before .before .kind .given .1) (c .fits2 .ensures)
 
 returns-3 : tie.Need-returns-3
-returns-3 c = 
+returns-3 c =
     rw (c .before .before .kind2 .given .1)
     (c .fits3 .ensures ∙ one-less (c .before .before .before .before .args .count) (c .before .before .kind2 .given .0 .0))
 

@@ -32,9 +32,8 @@ add-if3 c = search needs
 
 returns-3 : tie.Need-returns-3
 unfolding sharedGood
-returns-3 c = 
-    rw
-    (
+returns-3 c =
+    rw (
       lt-ltb _ _ (c .before .before .before .before .if1 .left),
       lt-ltb _ _ (c .before .before .if2 .left),
       above _ _ _ (c .before .before .before .before .before .before .position .ensures) (c .if3 .taken),
@@ -45,9 +44,8 @@ position-requires-2 c κs = search needs
 
 returns-4 : tie.Need-returns-4
 unfolding sharedGood
-returns-4 c = 
-    rw
-    (
+returns-4 c =
+    rw (
       lt-ltb _ _ (c .before .before .before .before .before .if1 .left),
       lt-ltb _ _ (c .before .before .before .if2 .left),
       not-above _ _ _ (c .before .before .before .before .before .before .before .position .ensures) (c .before .if3 .left),

@@ -2,21 +2,21 @@ use Prim.Native.Nat.{ℕ, _+_, _-_, _≤_, _<_}
 use mathlib.Core.Bool.{Bool, true, false, _&&_, not}
 use mathlib.Core.Path.{_≡_}
 use native.Mathlib.Omega.{arith}
-use lib.Dec.{leb, ltb}
+use lib.Dec.{leb}
 use borrow.Author.Needs.{needs}
-use borrow.Author.Tests.{le-leb, lt-leb, leb-true}
+use borrow.Author.Tests.{le-leb, lt-leb}
 use Rattle.index.specs.Position.{position, offset}
 use Rattle.index.specs.declared.Index.{Index}
 use Rattle.state.specs.List.{slotGood, blockGood}
+use Rattle.state.specs.ListLaws.{both, slot}
 use Rattle.state.specs.declared.Queue.{Queue}
-use Rattle.list.proofs.Laws.{same-test, left-true, told-true, told-false}
+use Rattle.list.proofs.Laws.{same-test, told-true, told-false}
 use Rattle.list.proofs.calls.claim_good.Statement.{statement}
 use Rattle.list.proofs.calls.claim_good.Tie as tie
 
 -- what the first test tells of the head's place
 not-above : (q : Queue) (h : Index) (b : ℕ) {x : Bool} → x ≡ (slotGood q h && blockGood q b) → not x ≡ false → position (h .raw) ≤ position (q .tail .raw)
-not-above q h b e f =
-    leb-true _ _ (left-true _ (ltb (offset (position (h .raw))) 63) (left-true (slotGood q h) (blockGood q b) (told-true e f)))
+not-above q h b e f = slot q h (both (slotGood q h) (blockGood q b) (told-true e f) .0) .below
 
 -- r, o, t are what the code holds for the head's place and offset and the tail's place
 past-end : (r o a : ℕ) → r ≡ o → 63 - r < a → leb (o + a) 63 ≡ false
@@ -45,8 +45,7 @@ sub-if3 c = search needs
 
 returns-3 : tie.Need-returns-3
 returns-3 c =
-    rw
-    (
+    rw (
       told-true (c .before .before .before .before .place-good .ensures) (c .before .before .before .if1 .left),
       le-leb _ _ (c .before .before .if2 .left),
       past-end _ _ _ (c .before .offset .ensures) (c .if3 .taken),
@@ -61,17 +60,15 @@ position-requires-2 c κs = search needs
 sub-result : tie.Need-sub-result
 sub-result c =
     let a = c .before .before .before .before .before .before .before .before .args in
-    omega
-    (
+    omega (
       arith,
       not-above (a .q) (a .claim .head) (a .claim .block) (c .before .before .before .before .before .before .place-good .ensures)
-      (c .before .before .before .before .before .if1 .left),
+          (c .before .before .before .before .before .if1 .left),
     )
 
 returns-4 : tie.Need-returns-4
 returns-4 c =
-    rw
-    (
+    rw (
       told-true (c .before .before .before .before .before .before .place-good .ensures) (c .before .before .before .before .before .if1 .left),
       le-leb _ _ (c .before .before .before .before .if2 .left),
       before-end _ _ _ (c .before .before .before .offset .ensures) (c .before .before .before .before .if2 .left) (c .before .before .if3 .left),

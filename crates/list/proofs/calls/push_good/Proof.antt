@@ -76,7 +76,7 @@ returns c = rw (c .before .before .line .given .1) (c .held-good .ensures)
 
 returns-2 : tie.Need-returns-2
 unfolding pushGood
-returns-2 c = 
+returns-2 c =
     rw (c .before .before .before .before .line2 .given .1)
     (passed (c .before .before .loaded-good .ensures) (c .before .if1 .taken) (c .held-good2 .ensures))
 
@@ -90,7 +90,7 @@ returns-4 c = rw (c .before .before .line3 .given .1) (c .place-good .ensures)
 
 returns-5 : tie.Need-returns-5
 unfolding pushGood
-returns-5 c = 
+returns-5 c =
     rw (c .before .before .before .before .line4 .given .1)
     (passed (c .before .before .may-hold .ensures) (c .before .if2 .taken) (c .holds-at-last .ensures))
 

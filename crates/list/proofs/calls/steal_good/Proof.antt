@@ -100,7 +100,7 @@ returns c = rw (c .before .before .line .given .1) (c .open-good .ensures)
 
 returns-2 : tie.Need-returns-2
 unfolding stealGood
-returns-2 c = 
+returns-2 c =
     rw (c .before .before .before .before .line2 .given .1)
     (passed (c .before .before .open-good2 .ensures) (c .before .if1 .taken) (c .loaded-good .ensures))
 
@@ -142,7 +142,7 @@ returns-11 c = rw (c .before .before .line10 .given .1) (c .slot-open2 .ensures)
 
 returns-12 : tie.Need-returns-12
 unfolding stealGood
-returns-12 c = 
+returns-12 c =
     rw (c .before .before .before .before .line11 .given .1)
     (passed (c .before .before .claim-good .ensures) (c .before .if2 .taken) (c .in-claim .ensures))
 

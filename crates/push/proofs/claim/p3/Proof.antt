@@ -24,8 +24,10 @@ same-length c = search needs
 returns : tie.Need-returns
 unfolding p3
 returns c =
-    let took = simp (c .before .enum-told .given .1) at (c .before .before .before .before .before .take .ensures .0) in
-    (simp (← took) (c .ends .ensures), simp (← took) (simp (← took) at (c .before .before .before .before .before .take .ensures .1)))
+    let known = c .before .enum-told .given .1 in
+    let take = c .before .before .before .before .before .take .ensures in
+    let took = simp known at (take .0) in
+    (simp (← took) (c .ends .ensures), simp (← took) (simp (← took) at (take .1)))
 
 same-length-2 : tie.Need-same-length-2
 same-length-2 c = search needs
@@ -33,8 +35,10 @@ same-length-2 c = search needs
 returns-2 : tie.Need-returns-2
 unfolding p3
 returns-2 c =
-    let took = simp (c .before .enum-told2 .given .1) at (c .before .before .before .before .before .take .ensures .0) in
-    (simp (← took) (simp (c .before .enum-told2 .given .1) at (c .to .ensures)), simp (← took) (simp (← took) at (c .before .before .before .before .before .take .ensures .1)))
+    let known = c .before .enum-told2 .given .1 in
+    let take = c .before .before .before .before .before .take .ensures in
+    let took = simp known at (take .0) in
+    (simp (← took) (simp known at (c .to .ensures)), simp (← took) (simp (← took) at (take .1)))
 
 pub p3-spec : {M : Type 1} → statement M
 p3-spec =

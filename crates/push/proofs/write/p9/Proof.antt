@@ -27,7 +27,10 @@ same-length c = search needs
 returns : tie.Need-returns
 unfolding p9
 returns c =
-    (simp (c .before .enum-told .given .1) (c .ends .ensures), simp (c .before .enum-told .given .1, ← c .before .before .before .before .before .before .offset .ensures) (c .before .before .before .before .before .fetch-or .ensures .1))
+    let known = c .before .enum-told .given .1 in
+    let offset = c .before .before .before .before .before .before .offset .ensures in
+    let or = c .before .before .before .before .before .fetch-or .ensures in
+    (simp known (c .ends .ensures), simp (known, ← offset) (or .1))
 
 same-length-2 : tie.Need-same-length-2
 same-length-2 c = search needs
@@ -35,7 +38,10 @@ same-length-2 c = search needs
 returns-2 : tie.Need-returns-2
 unfolding p9
 returns-2 c =
-    (simp (c .before .before .held .given .1) (c .to .ensures), simp (c .before .before .held .given .1, ← c .before .before .before .before .before .before .before .offset .ensures) (c .before .before .before .before .before .before .fetch-or .ensures .1))
+    let known = c .before .before .held .given .1 in
+    let offset = c .before .before .before .before .before .before .before .offset .ensures in
+    let or = c .before .before .before .before .before .before .fetch-or .ensures in
+    (simp known (c .to .ensures), simp (known, ← offset) (or .1))
 
 pub p9-spec : {M : Type 1} → statement M
 p9-spec =

@@ -1,39 +1,28 @@
 use borrow.Author.Needs.{needs}
 use Rattle.steal.proofs.claim.end_advance.Statement.{statement}
 use Rattle.steal.proofs.claim.end_advance.Tie as tie
-use Rattle.steal.proofs.claim.end_advance.Reads as reads
-use Rattle.steal.proofs.claim.end_advance.Lts as lts
-use Rattle.index.proofs.to_block_end.Reads as to-block-end-reads
 
--- src/claim.rt:24:24
 enum-told : tie.Need-enum-told
 enum-told c = search needs
 
--- src/claim.rt:25:21
 enum-known-kind : tie.Need-enum-known-kind
 enum-known-kind c = search needs
 
--- src/claim.rt:25:31
 to-block-end-requires : tie.Need-to-block-end-requires
 to-block-end-requires c κs = search needs
 
--- src/claim.rt:26:20
 enum-known-kind-2 : tie.Need-enum-known-kind-2
 enum-known-kind-2 c = search needs
 
--- src/claim.rt:26:30
 to-block-end-requires-2 : tie.Need-to-block-end-requires-2
 to-block-end-requires-2 c κs = search needs
 
--- src/claim.rt:20:1
 returns : tie.Need-returns
 returns c = search needs
 
--- src/claim.rt:20:1
 returns-2 : tie.Need-returns-2
 returns-2 c = cc
 
--- src/claim.rt:20:1
 returns-3 : tie.Need-returns-3
 returns-3 c = cc
 

@@ -1,57 +1,53 @@
-use mathlib.Core.Path.{_≡_, refl, sym, _∙_}
+use mathlib.Core.Path.{sym, _∙_}
 use borrow.Author.Tests.{eq-eqb, ne-eqb}
-use Rattle.steal.specs.Steal.{s2}
 use borrow.Author.Needs.{needs}
+use Rattle.steal.specs.Steal.{s2}
 use Rattle.steal.proofs.claim.s2.Statement.{statement}
 use Rattle.steal.proofs.claim.s2.Tie as tie
-use Rattle.steal.proofs.claim.s2.Reads as reads
-use Rattle.steal.proofs.claim.s2.Lts as lts
-use Rattle.index.proofs.Index.has_next.Reads as has-next-reads
-use Rattle.index.proofs.Index.offset.Reads as offset-reads
-use Rattle.steal.proofs.claim.end_advance.Reads as end-advance-reads
-use Rattle.steal.proofs.made.to.Reads as to-reads
 
--- src/claim.rt:45:8
 offset-requires : tie.Need-offset-requires
 offset-requires c κs = search needs
 
--- src/claim.rt:46:9
 to-requires : tie.Need-to-requires
 to-requires c κs = search needs
 
--- src/claim.rt:46:9
 returns : tie.Need-returns
 unfolding s2
-returns c = simp (c .to .ensures, eq-eqb _ _ (sym (c .before .before .offset .ensures) ∙ c .before .if1 .taken))
+returns c =
+    simp (
+      c .to .ensures,
+      eq-eqb _ _ (sym (c .before .before .offset .ensures) ∙ c .before .if1 .taken),
+    )
 
--- src/claim.rt:48:8
 has-next-requires : tie.Need-has-next-requires
 has-next-requires c κs = search needs
 
--- src/claim.rt:49:13
 end-advance-requires : tie.Need-end-advance-requires
 end-advance-requires c κs = search needs
 
--- src/claim.rt:55:9
 to-requires-2 : tie.Need-to-requires-2
 to-requires-2 c κs = search needs
 
--- src/claim.rt:55:9
 returns-2 : tie.Need-returns-2
 unfolding s2
 returns-2 c =
-    let inside = ne-eqb _ _ (λ e. c .before .before .before .before .if1 .left (c .before .before .before .before .before .offset .ensures ∙ e)) in
-    simp (c .to2 .ensures, c .before .end-advance .ensures, inside, sym (c .before .before .before .has-next .ensures) ∙ c .before .before .if2 .taken)
+    let offset = c .before .before .before .before .before .offset .ensures in
+    let inside = ne-eqb _ _ (λ e. c .before .before .before .before .if1 .left (offset ∙ e)) in
+    simp (
+      c .to2 .ensures,
+      c .before .end-advance .ensures,
+      inside,
+      sym (c .before .before .before .has-next .ensures) ∙ c .before .before .if2 .taken,
+    )
 
--- src/claim.rt:57:5
 to-requires-3 : tie.Need-to-requires-3
 to-requires-3 c κs = search needs
 
--- src/claim.rt:41:1
 returns-3 : tie.Need-returns-3
 unfolding s2
 returns-3 c =
-    let inside = ne-eqb _ _ (λ e. c .before .before .before .if1 .left (c .before .before .before .before .offset .ensures ∙ e)) in
+    let offset = c .before .before .before .before .offset .ensures in
+    let inside = ne-eqb _ _ (λ e. c .before .before .before .if1 .left (offset ∙ e)) in
     simp (c .to3 .ensures, inside, sym (c .before .before .has-next .ensures) ∙ c .before .if2 .left)
 
 pub s2-spec : {M : Type 1} → statement M

@@ -1,49 +1,41 @@
-use mathlib.Core.Path.{_≡_, refl, sym, _∙_}
-use Rattle.steal.specs.Steal.{s3}
+use mathlib.Core.Path.{sym, _∙_}
 use borrow.Author.Needs.{needs}
+use Rattle.steal.specs.Steal.{s3}
 use Rattle.steal.proofs.claim.s3.Statement.{statement}
 use Rattle.steal.proofs.claim.s3.Tie as tie
-use Rattle.steal.proofs.claim.s3.Reads as reads
-use Rattle.steal.proofs.claim.s3.Lts as lts
-use Rattle.index.proofs.Index.lap.Reads as lap-reads
-use Rattle.index.proofs.same_position.Reads as same-position-reads
-use Rattle.steal.proofs.claim.advance_of.Reads as advance-of-reads
-use Rattle.steal.proofs.made.ends.Reads as ends-reads
-use Rattle.steal.proofs.made.to.Reads as to-reads
 
--- src/claim.rt:64:8
 same-position-requires : tie.Need-same-position-requires
 same-position-requires c κs = search needs
 
--- src/claim.rt:65:9
 ends-requires : tie.Need-ends-requires
 ends-requires c κs = search needs
 
--- src/claim.rt:65:9
 returns : tie.Need-returns
 unfolding s3
 returns c = simp (c .ends .ensures, sym (c .before .before .same-position .ensures) ∙ c .before .if1 .taken)
 
--- src/claim.rt:67:9
 advance-of-requires : tie.Need-advance-of-requires
 advance-of-requires c κs = search needs
 
--- src/claim.rt:73:38
 lap-requires : tie.Need-lap-requires
 lap-requires c κs = search needs
 
--- src/claim.rt:73:52
 lap-requires-2 : tie.Need-lap-requires-2
 lap-requires-2 c κs = search needs
 
--- src/claim.rt:73:5
 to-requires : tie.Need-to-requires
 to-requires c κs = search needs
 
--- src/claim.rt:60:1
 returns-2 : tie.Need-returns-2
 unfolding s3
-returns-2 c = simp (c .to .ensures, c .before .before .before .advance-of .ensures, sym (c .before .before .before .before .before .same-position .ensures) ∙ c .before .before .before .before .if1 .left, c .before .before .lap .ensures, c .before .lap2 .ensures)
+returns-2 c =
+    simp (
+      c .to .ensures,
+      c .before .before .before .advance-of .ensures,
+      sym (c .before .before .before .before .before .same-position .ensures) ∙ c .before .before .before .before .if1 .left,
+      c .before .before .lap .ensures,
+      c .before .lap2 .ensures,
+    )
 
 pub s3-spec : {M : Type 1} → statement M
 s3-spec =

@@ -2,18 +2,13 @@ use borrow.Author.Tests.{eq-eqb, ne-eqb}
 use borrow.Author.Needs.{needs}
 use Rattle.steal.proofs.made.walk_below.Statement.{statement}
 use Rattle.steal.proofs.made.walk_below.Tie as tie
-use Rattle.steal.proofs.made.walk_below.Reads as reads
-use Rattle.steal.proofs.made.walk_below.Lts as lts
 
--- src/made.rt:66:9
 returns : tie.Need-returns
 returns c = simp (eq-eqb _ _ (c .if1 .taken))
 
--- src/made.rt:68:32
 sub-t5 : tie.Need-sub-t5
 sub-t5 c = search needs
 
--- src/made.rt:62:1
 returns-2 : tie.Need-returns-2
 returns-2 c = simp (ne-eqb _ _ (c .if1 .left))
 

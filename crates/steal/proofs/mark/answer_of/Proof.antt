@@ -1,22 +1,16 @@
 use borrow.Author.Needs.{needs}
 use Rattle.steal.proofs.mark.answer_of.Statement.{statement}
 use Rattle.steal.proofs.mark.answer_of.Tie as tie
-use Rattle.steal.proofs.mark.answer_of.Reads as reads
-use Rattle.steal.proofs.mark.answer_of.Lts as lts
 
--- src/mark.rt:15:19
 enum-known-won : tie.Need-enum-known-won
 enum-known-won c = search needs
 
--- src/mark.rt:16:23
 enum-told : tie.Need-enum-told
 enum-told c = search needs
 
--- src/mark.rt:11:1
 returns : tie.Need-returns
 returns c = simp (c .before .won .given .1)
 
--- src/mark.rt:11:1
 returns-2 : tie.Need-returns-2
 returns-2 c = search needs
 

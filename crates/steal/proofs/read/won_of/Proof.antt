@@ -1,34 +1,25 @@
 use borrow.Author.Needs.{needs}
 use Rattle.steal.proofs.read.won_of.Statement.{statement}
 use Rattle.steal.proofs.read.won_of.Tie as tie
-use Rattle.steal.proofs.read.won_of.Reads as reads
-use Rattle.steal.proofs.read.won_of.Lts as lts
 
--- src/read.rt:26:16
 array-read-task : tie.Need-array-read-task
 array-read-task c = search needs
 
--- src/read.rt:28:24
 enum-told : tie.Need-enum-told
 enum-told c = search needs
 
--- src/read.rt:29:27
 enum-told-2 : tie.Need-enum-told-2
 enum-told-2 c = search needs
 
--- src/read.rt:30:26
 enum-told-3 : tie.Need-enum-told-3
 enum-told-3 c = search needs
 
--- src/read.rt:23:1
 returns : tie.Need-returns
 returns c = simp (c .enum-told .given .1)
 
--- src/read.rt:23:1
 returns-2 : tie.Need-returns-2
 returns-2 c = search needs
 
--- src/read.rt:23:1
 returns-3 : tie.Need-returns-3
 returns-3 c = simp (c .enum-told3 .given .1)
 

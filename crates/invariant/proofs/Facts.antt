@@ -1,0 +1,80 @@
+-- What everybody uses of the conjuncts: who owns a block, which lap it serves, where its words are.
+use Prim.Native.Nat.{ℕ, _+_, _*_, _-_, _≤_, _<_}
+use mathlib.Core.Path.{_≡_, refl, sym, ap, subst, _∙_}
+use mathlib.Core.Bool.{Bool, true, false, cond}
+use mathlib.Core.Logic.{_⊎_, inl, inr, ⊎-elim}
+use native.Mathlib.Omega.{arith}
+use native.Mathlib.Decide.{ℕ-discrete}
+use Rattle.memory.specs.Laws.{Room}
+use Rattle.invariant.specs.Ghost.{Ghost, Maybe, none, some, Own, Free, Held, Open, Back, lapOf, front, resp}
+use Rattle.invariant.specs.State.{State, lp, off, T, H, N, own}
+use Rattle.invariant.specs.Shared.{Shared}
+
+-- what holds of both arms of a test, each under it, holds of the test
+pub cond-elim : {A : Type 0} (P : A → Type 0) (b : Bool) (x y : A) → (b ≡ true → P x) → (b ≡ false → P y) → P (cond b x y)
+cond-elim P true x y f g = f refl
+cond-elim P false x y f g = g refl
+
+pub true-or-false : (b : Bool) → (b ≡ true) ⊎ (b ≡ false)
+true-or-false true = inl refl
+true-or-false false = inr refl
+
+-- both cannot be
+pub clash : {A : Type 0} (b : Bool) → b ≡ true → b ≡ false → A
+clash b p q = absurd (let z : _≡_ {A = ℕ} 0 1 = (let e : true ≡ false = sym p ∙ q in ap (λ (c : Bool). cond c 0 1) e) in omega arith)
+
+-- `f` with one place changed
+abbrev pub put : {A : Type 0} → (ℕ → A) → ℕ → A → ℕ → A
+put f k a j = cond (lib.Dec.eqb j k) a (f j)
+
+pub put-same : {A : Type 0} (f : ℕ → A) (k : ℕ) (a : A) → put f k a k ≡ a
+put-same f k a = rw (borrow.Author.Tests.eq-eqb k k refl)
+
+pub put-other : {A : Type 0} (f : ℕ → A) (k : ℕ) (a : A) (j : ℕ) → (j ≡ k → ⊥) → put f k a j ≡ f j
+put-other f k a j n = rw (borrow.Author.Tests.ne-eqb j k n)
+
+-- a block that serves a lap is open or on its way back
+pub data Serving (l : ℕ) : Own → Type 0 where
+  is-open : Serving l (Open l)
+  is-back : (f i : ℕ) → Serving l (Back l f i)
+
+pub some-inj : (a b : ℕ) → some a ≡ some b → a ≡ b
+some-inj a b e = cc
+
+pub none-some : {A : Type 0} (a : ℕ) → none ≡ some a → A
+none-some a e = absurd (let z : _≡_ {A = ℕ} 0 1 = cc in omega arith)
+
+pub serving : (o : Own) (l : ℕ) → lapOf o ≡ some l → Serving l o
+serving Free l e = none-some l e
+serving (Held i) l e = none-some l e
+serving (Open k) l e = subst (λ (x : ℕ). Serving l (Open x)) (sym (some-inj k l e)) is-open
+serving (Back k f i) l e = subst (λ (x : ℕ). Serving l (Back x f i)) (sym (some-inj k l e)) (is-back f i)
+
+module _ (s : State) (h : Shared s) where
+  -- a block that is somebody's is one of the pool, and the memory has all of it
+  pub serving-number : (b l : ℕ) → lapOf (own s b) ≡ some l → b < N s
+  serving-number b l e = h .number b (λ f. none-some l (sym (ap lapOf f) ∙ e))
+
+  pub held-number : (b i : ℕ) → own s b ≡ Held i → b < N s
+  held-number b i e = h .number b (λ f. absurd (let g : Held i ≡ Free = sym e ∙ f in let z : _≡_ {A = ℕ} 0 1 = cc in omega arith))
+
+  pub room : (b : ℕ) → b < N s → Room (s .pool) b
+  room b n = omega (arith, h .sized)
+
+  -- a lap's block is one
+  pub serves-at : (b l : ℕ) → lapOf (own s b) ≡ some l → s .ghost .chain l ≡ b
+  serves-at b l e = go (own s b) refl (serving (own s b) l e)
+    where
+      go : (o : Own) → own s b ≡ o → Serving l o → s .ghost .chain l ≡ b
+      go o q is-open = h .open-at b l q
+      go o q (is-back f i) = h .back-at b l f i q
+
+  pub serves-to : (b l : ℕ) → lapOf (own s b) ≡ some l → l ≤ lp (T s)
+  serves-to b l e = go (own s b) refl (serving (own s b) l e)
+    where
+      go : (o : Own) → own s b ≡ o → Serving l o → l ≤ lp (T s)
+      go o q is-open = h .open-to b l q
+      go o q (is-back f i) = omega (arith, h .back-to b l f i q, h .order)
+
+  pub one-block : (a b l : ℕ) → lapOf (own s a) ≡ some l → lapOf (own s b) ≡ some l → a ≡ b
+  one-block a b l p q = sym (serves-at a l p) ∙ serves-at b l q

@@ -1,0 +1,1 @@
+// Demand 3: what holds of every state of every history. Definitions and proofs, no code.

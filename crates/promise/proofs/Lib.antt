@@ -1,0 +1,14 @@
+pub mod Claiming
+pub mod Example
+pub mod Handing
+pub mod Keeps
+pub mod Once
+pub mod Promise
+pub mod Quiet
+pub mod Run
+pub mod Seen
+pub mod Stage
+pub mod Start
+pub mod Step
+pub mod Tally
+pub mod World
