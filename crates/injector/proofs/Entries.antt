@@ -44,19 +44,19 @@ module _ (q : Queue) (m : List ℕ) (t : Thread) (n : ℕ) where
     unfolding popEntry
     pop-made i = rw (passes, i)
 
-    module _ (what : Request) where
-      pub begin-busy : isIdle (t .call) ≡ false → beginEntry q m t n what ≡ notBegun t Busy
-      unfolding beginEntry
-      begin-busy i = rw (passes, i)
+    pub begin-busy : (what : Request) → isIdle (t .call) ≡ false → beginEntry q m t n what ≡ notBegun t Busy
+    unfolding beginEntry
+    begin-busy what i = rw (passes, i)
 
-      pub begin-no-limit : isIdle (t .call) ≡ true → limitGood (testedAs what) ≡ false → beginEntry q m t n what ≡ notBegun t NoLimit
+    module _ (what : Request) (idle : isIdle (t .call) ≡ true) where
+      pub begin-no-limit : limitGood (testedAs what) ≡ false → beginEntry q m t n what ≡ notBegun t NoLimit
       unfolding beginEntry
-      begin-no-limit i l = rw (passes, i, l)
+      begin-no-limit l = rw (passes, idle, l)
 
-      pub begin-no-room : isIdle (t .call) ≡ true → limitGood (testedAs what) ≡ true → roomGood (testedAs what) (t .ring .count) ≡ false → beginEntry q m t n what ≡ notBegun t NoRoom
+      pub begin-no-room : limitGood (testedAs what) ≡ true → roomGood (testedAs what) (t .ring .count) ≡ false → beginEntry q m t n what ≡ notBegun t NoRoom
       unfolding beginEntry
-      begin-no-room i l r = rw (passes, i, l, r)
+      begin-no-room l r = rw (passes, idle, l, r)
 
-      pub begin-made : isIdle (t .call) ≡ true → limitGood (testedAs what) ≡ true → roomGood (testedAs what) (t .ring .count) ≡ true → beginEntry q m t n what ≡ begun t what
+      pub begin-made : limitGood (testedAs what) ≡ true → roomGood (testedAs what) (t .ring .count) ≡ true → beginEntry q m t n what ≡ begun t what
       unfolding beginEntry
-      begin-made i l r = rw (passes, i, l, r)
+      begin-made l r = rw (passes, idle, l, r)

@@ -1,2 +1,5 @@
 pub mod Laws
 pub mod Entries
+pub mod Keeps
+pub mod Waits
+pub mod Going

@@ -1,3 +1,4 @@
 pub mod Step
 pub mod Entry
 pub mod Audit
+pub mod Wait

@@ -64,8 +64,8 @@ pub fn begin(q: Queue, pool: &[u64], thread: Thread, number: u64, what: Request)
     if let Tested::Refuses(refusal) = tested {
         return not_begun(thread, refusal);
     }
-    let call = thread.call;
-    if !is_idle(call) {
+    let before = thread.call;
+    if !is_idle(before) {
         return not_begun(thread, Refusal::Busy);
     }
     let kind = tested_as(what);

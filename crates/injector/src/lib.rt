@@ -7,6 +7,7 @@ use state::Thread;
 
 mod begins;
 mod chain;
+mod runs;
 mod start;
 mod steps;
 mod test;
@@ -14,6 +15,7 @@ mod test;
 pub use begins::begin;
 pub use begins::pop;
 pub use chain::audit;
+pub use runs::run;
 pub use start::idle_thread;
 pub use start::setup;
 pub use steps::step;

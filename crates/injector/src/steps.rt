@@ -46,10 +46,11 @@ pub(crate) fn advance(q: Queue, pool: &mut [u64], thread: Thread) -> Stepped
 pub(crate) fn refused(q: Queue, thread: Thread, refusal: Refusal) -> Ran
     ensures { λ r. ⌜ r ≡ record { queue = q; thread = thread; answer = Refused refusal; steps = 0 } ⌝ }
 {
+    let answer = Answer::Refused(refusal);
     Ran {
         queue: q,
         thread,
-        answer: Answer::Refused(refusal),
+        answer,
         steps: 0,
     }
 }

@@ -12,13 +12,15 @@ pub(crate) fn test(q: Queue, pool: &[u64], thread: Thread, number: u64) -> Teste
     ensures { λ r. ⌜ r ≡ tested q (now (pool .entry)) thread number ⌝ }
 {
     let len = pool.len() as u64;
+    let threads = q.threads;
     if !list::setup_good(q, len) {
         return Tested::Refuses(Refusal::BadSetup);
     }
-    if !list::state_good(q, pool, thread) {
+    let good = list::state_good(q, pool, thread);
+    if !good {
         return Tested::Refuses(Refusal::BadState);
     }
-    if q.threads <= number {
+    if threads <= number {
         return Tested::Refuses(Refusal::NoThread);
     }
     Tested::Passes

@@ -219,16 +219,20 @@ module _ (s : State) (i count : ℕ) (taken : List ℕ) (k : Kind) (c : Claim) (
   unfolding s4
   s4-kept = s4-by (eqb (H s) (c .head .raw)) refl
 
-  -- where the compare held, the ghost has the tickets as the thread's
-  by-logged : (d : Bool) (q : eqb (H s) (c .head .raw) ≡ d) → H s ≡ c .head .raw
-      → s4-by d q .ghost ≡ claimed-by (s .ghost) i (c .head .raw) (c .advance)
-  unfolding s4-by s4-won
-  by-logged true q e = refl
-  by-logged false q e = clash (eqb (H s) (c .head .raw)) (eq-eqb (H s) (c .head .raw) e) q
+  -- the ghost that is chosen, by the compare's outcome
+  by-ghost : (d : Bool) (q : eqb (H s) (c .head .raw) ≡ d)
+      → s4-by d q .ghost ≡ cond d (claimed-by (s .ghost) i (c .head .raw) (c .advance)) (s .ghost)
+  unfolding s4-by s4-won stops
+  by-ghost true q = refl
+  by-ghost false q = refl
 
-  pub s4-logged : H s ≡ c .head .raw → s4-kept .ghost ≡ claimed-by (s .ghost) i (c .head .raw) (c .advance)
+  pub s4-ghost : s4-kept .ghost ≡ cond (eqb (H s) (c .head .raw)) (claimed-by (s .ghost) i (c .head .raw) (c .advance)) (s .ghost)
   unfolding s4 s4-kept
-  s4-logged e = by-logged (eqb (H s) (c .head .raw)) refl e
+  s4-ghost = by-ghost (eqb (H s) (c .head .raw)) refl
+
+  -- where it held, the ghost has the tickets as the thread's
+  pub s4-logged : H s ≡ c .head .raw → s4-kept .ghost ≡ claimed-by (s .ghost) i (c .head .raw) (c .advance)
+  s4-logged e = rw (eq-eqb (H s) (c .head .raw) e) at s4-ghost
 
 -- the tickets are the next ones, whatever ghost is chosen
 pub s4-claim : (s : State) (k : Kind) (c : Claim) (more : Bool) (g : Ghost) → off (c .head .raw) + c .advance ≤ 63 → H s ≡ c .head .raw

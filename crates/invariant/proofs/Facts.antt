@@ -11,9 +11,28 @@ use Rattle.invariant.specs.State.{State, lp, off, T, H, N, own}
 use Rattle.invariant.specs.Shared.{Shared}
 
 -- what holds of both arms of a test, each under it, holds of the test
-pub cond-elim : {A : Type 0} (P : A → Type 0) (b : Bool) (x y : A) → (b ≡ true → P x) → (b ≡ false → P y) → P (cond b x y)
+unfoldable pub cond-elim : {A : Type 0} (P : A → Type 0) (b : Bool) (x y : A) → (b ≡ true → P x) → (b ≡ false → P y) → P (cond b x y)
 cond-elim P true x y f g = f refl
 cond-elim P false x y f g = g refl
+
+-- .. also of two tests of the same
+pub cond-pair : {A B : Type 0} (P : A → B → Type 0) (b : Bool) (x y : A) (u v : B) → (b ≡ true → P x u) → (b ≡ false → P y v)
+    → P (cond b x y) (cond b u v)
+cond-pair P true x y u v f g = f refl
+cond-pair P false x y u v f g = g refl
+
+-- .. and what is read off it is what is read off the arm taken
+pub cond-read : {A B : Type 0} (P : A → Type 0) (read : (a : A) → P a → B) (b : Bool) (x y : A) (f : b ≡ true → P x) (g : b ≡ false → P y) (u v : B)
+    → ((e : b ≡ true) → read x (f e) ≡ u) → ((e : b ≡ false) → read y (g e) ≡ v) → read (cond b x y) (cond-elim P b x y f g) ≡ cond b u v
+unfolding cond-elim
+cond-read P read true x y f g u v p q = p refl
+cond-read P read false x y f g u v p q = q refl
+
+pub cond-same : {A B : Type 0} (P : A → Type 0) (read : (a : A) → P a → B) (b : Bool) (x y : A) (f : b ≡ true → P x) (g : b ≡ false → P y) (u : B)
+    → ((e : b ≡ true) → read x (f e) ≡ u) → ((e : b ≡ false) → read y (g e) ≡ u) → read (cond b x y) (cond-elim P b x y f g) ≡ u
+unfolding cond-elim
+cond-same P read true x y f g u p q = p refl
+cond-same P read false x y f g u p q = q refl
 
 pub true-or-false : (b : Bool) → (b ≡ true) ⊎ (b ≡ false)
 true-or-false true = inl refl

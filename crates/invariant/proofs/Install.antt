@@ -340,3 +340,13 @@ p6-kept s i count taken v t b x h ok =
       call = p6-next s i v (t .raw) b x h ok;
       others = p6-rely s i v (t .raw) b x h ok;
     }
+
+-- the ghosts that are chosen
+module _ (s : State) (i count : ℕ) (taken : List ℕ) (v : ℕ) (t : Index) (b x : ℕ) (h : Shared s) where
+  pub p5-ghost : (ok : PushOk s i (P5 v t b x)) → p5-kept s i count taken v t b x h ok .ghost ≡ s .ghost
+  unfolding p5-kept
+  p5-ghost ok = refl
+
+  pub p6-ghost : (ok : PushOk s i (P6 v t b x)) → p6-kept s i count taken v t b x h ok .ghost ≡ opened (s .ghost) (lp (T s) + 1) x
+  unfolding p6-kept
+  p6-ghost ok = refl

@@ -195,13 +195,13 @@ left-on s i h b a more =
 
 module _ (s : State) (i count h b a : ℕ) (k : Kind) (more : Bool) (sh : Shared s) (ok : S8Ok s i k count h b a more) where
   -- the head is then at the next lap's first slot, and no ticket is passed over
-  new-position : position (left-head h a more) ≡ position h + a + 1
+  pub new-position : position (left-head h a more) ≡ position h + a + 1
   new-position = omega (arith, left-position (advanced h a) more)
 
   new-lap : lp (left-head h a more) ≡ lp h + 1
   new-lap = omega (arith, new-position, ok .leaves .ended)
 
-  new-tickets : tk (left-head h a more) ≡ nc s
+  pub new-tickets : tk (left-head h a more) ≡ nc s
   new-tickets = omega (arith, new-position, ok .leaves .ended, ok .leaves .head)
 
   old-lap : lp (H s) ≡ lp h
@@ -218,10 +218,10 @@ module _ (s : State) (i count h b a : ℕ) (k : Kind) (more : Bool) (sh : Shared
   owners P c p q = put-elim P (own s) b (Back (lp h) 63 i) c p q
 
   -- every block serves the lap that it served, and its frontier stays
-  same-serves : (c : ℕ) → lapOf (own (left-on s i h b a more) c) ≡ lapOf (own s c)
+  pub same-serves : (c : ℕ) → lapOf (own (left-on s i h b a more) c) ≡ lapOf (own s c)
   same-serves c = owners (λ w. lapOf w ≡ lapOf (own s c)) c (λ e. sym (ap lapOf (was-open c e))) (λ n. refl)
 
-  same-front : (c : ℕ) → front (own (left-on s i h b a more) c) ≡ front (own s c)
+  pub same-front : (c : ℕ) → front (own (left-on s i h b a more) c) ≡ front (own s c)
   same-front c = owners (λ w. front w ≡ front (own s c)) c (λ e. sym (ap front (was-open c e))) (λ n. refl)
 
   served : (c l : ℕ) → lapOf (own (left-on s i h b a more) c) ≡ some l → lapOf (own s c) ≡ some l
@@ -364,3 +364,14 @@ s8-kept s i count taken k c more h ok =
       call = s8-next s i count (c .head .raw) (c .block) (c .advance) k more h ok taken;
       others = s8-rely s i count (c .head .raw) (c .block) (c .advance) k more h ok;
     }
+
+-- the ghosts that are chosen
+module _ (s : State) (i count : ℕ) (taken : List ℕ) (k : Kind) (c : Claim) (h : Shared s) where
+  pub s7-ghost : (x : ℕ) (more : Bool) (ok : StealOk s i count taken (S7 k c x more)) → s7-kept s i count taken k c x more h ok .ghost ≡ s .ghost
+  unfolding s7-kept
+  s7-ghost x more ok = refl
+
+  pub s8-ghost : (more : Bool) (ok : StealOk s i count taken (S8 k c more))
+      → s8-kept s i count taken k c more h ok .ghost ≡ left-by (s .ghost) i (c .block) (lp (c .head .raw))
+  unfolding s8-kept
+  s8-ghost more ok = refl

@@ -31,13 +31,13 @@ block-inj a b e = cc
 
 module _ (s : State) (i v t b x : ℕ) (h : Shared s) (ok : P7Ok s i v t b x) where
   -- a mark that is seen afterwards was there, and the other way round
-  was : (k : Mark) (a o : ℕ) → o < 63 → has k (state (s .pool) a o) ≡ has k (state (after (s .pool) (links b x)) a o)
+  pub was : (k : Mark) (a o : ℕ) → o < 63 → has k (state (s .pool) a o) ≡ has k (state (after (s .pool) (links b x)) a o)
   was k a o q = sym (ap (has k) (state-links (s .pool) b x a o q))
 
   same-token : (a o : ℕ) → o < 63 → tok (linked-on s b x) a o ≡ tok s a o
   same-token a o q = token-links (s .pool) b x a o q
 
-  linked : nxt (linked-on s b x) b ≡ Block x
+  pub linked : nxt (linked-on s b x) b ≡ Block x
   linked = next-linked (s .pool) b x (room s h b (serving-number s h b (lp t) (ok .owes .serves)))
 
   -- what is said of the links: of b's, and of every other
@@ -138,3 +138,8 @@ p7-kept s i count taken v t b x h ok =
       call = record { owes = p7-owes s i v (t .raw) b x h ok (ok .owes); holds = tt };
       others = λ j n. p7-rely s i v (t .raw) b x h ok j;
     }
+
+pub p7-ghost : (s : State) (i count : ℕ) (taken : List ℕ) (v : ℕ) (t : Index) (b x : ℕ) (h : Shared s) (ok : PushOk s i (P7 v t b x))
+    → p7-kept s i count taken v t b x h ok .ghost ≡ s .ghost
+unfolding p7-kept
+p7-ghost s i count taken v t b x h ok = refl

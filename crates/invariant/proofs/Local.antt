@@ -40,8 +40,8 @@ rely-refl j s =
       wrote = λ b l o h1 h2 h3. h3;
     }
 
-pub goes-on : (s : State) (i count : ℕ) (taken : List ℕ) (call : Call) → Shared s → CallOk s i count taken call → Kept s i count taken (on (s .queue) call leaves)
+unfoldable pub goes-on : (s : State) (i count : ℕ) (taken : List ℕ) (call : Call) → Shared s → CallOk s i count taken call → Kept s i count taken (on (s .queue) call leaves)
 goes-on s i count taken call h c = record { ghost = s .ghost; shared = h; call = c; others = λ j n. rely-refl j s }
 
-pub stops : (s : State) (i count : ℕ) (taken : List ℕ) (answer : Answer) → Shared s → Kept s i count taken (ends (s .queue) answer leaves)
+unfoldable pub stops : (s : State) (i count : ℕ) (taken : List ℕ) (answer : Answer) → Shared s → Kept s i count taken (ends (s .queue) answer leaves)
 stops s i count taken answer h = record { ghost = s .ghost; shared = h; call = tt; others = λ j n. rely-refl j s }

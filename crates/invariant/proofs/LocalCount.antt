@@ -1,5 +1,6 @@
 -- The lines of length and empty: each only loads.
 use Prim.Native.Nat.{ℕ}
+use mathlib.Core.Path.{_≡_, refl}
 use mathlib.Core.List.{List}
 use native.Mathlib.Nat.{le-refl}
 use lib.Dec.{eqb}
@@ -15,7 +16,7 @@ use Rattle.invariant.specs.State.{State, T}
 use Rattle.invariant.specs.Shared.{Shared}
 use Rattle.invariant.specs.Lines.{LengthOk, EmptyOk}
 use Rattle.invariant.specs.Kept.{Kept}
-use Rattle.invariant.proofs.Facts.{cond-elim}
+use Rattle.invariant.proofs.Facts.{cond-elim, cond-same}
 use Rattle.invariant.proofs.Local.{goes-on, stops}
 
 module _ (s : State) (i count : ℕ) (taken : List ℕ) where
@@ -42,3 +43,28 @@ module _ (s : State) (i count : ℕ) (taken : List ℕ) where
       cond-elim (Kept s i count taken) (eqb (position (t .raw)) (position (T s))) _ _
       (λ e. stops s i count taken Yes h)
       (λ e. stops s i count taken No h)
+
+  -- the ghost that is chosen is the old one
+  pub l1-ghost : (h : Shared s) (p : LengthOk s L1) → l1-kept h p .ghost ≡ s .ghost
+  unfolding l1-kept goes-on
+  l1-ghost h p = refl
+
+  pub l2-ghost : (t : Index) (h : Shared s) (p : LengthOk s (L2 t)) → l2-kept t h p .ghost ≡ s .ghost
+  unfolding l2-kept goes-on
+  l2-ghost t h p = refl
+
+  pub l3-ghost : (t u : Index) (h : Shared s) (p : LengthOk s (L3 t u)) → l3-kept t u h p .ghost ≡ s .ghost
+  unfolding l3 l3-kept goes-on stops
+  l3-ghost t u h p =
+      cond-same (Kept s i count taken) (λ m k. k .ghost) (eqb (T s) (t .raw)) _ _ _ _ (s .ghost) (λ e. refl) (λ e. refl)
+
+  pub e1-ghost : (h : Shared s) (p : EmptyOk s E1) → e1-kept h p .ghost ≡ s .ghost
+  unfolding e1-kept goes-on
+  e1-ghost h p = refl
+
+  pub e2-ghost : (t : Index) (h : Shared s) (p : EmptyOk s (E2 t)) → e2-kept t h p .ghost ≡ s .ghost
+  unfolding e2 e2-kept stops
+  e2-ghost t h p =
+      cond-same (Kept s i count taken) (λ m k. k .ghost) (eqb (position (t .raw)) (position (T s))) _ _ _ _ (s .ghost)
+      (λ e. refl)
+      (λ e. refl)

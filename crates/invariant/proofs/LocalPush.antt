@@ -19,7 +19,7 @@ use Rattle.invariant.specs.State.{State, lp, off, T, TB, L}
 use Rattle.invariant.specs.Shared.{Shared}
 use Rattle.invariant.specs.Lines.{HeldOk, AtTail, P2Ok, P4Ok, PushOk}
 use Rattle.invariant.specs.Kept.{Kept}
-use Rattle.invariant.proofs.Facts.{cond-elim}
+use Rattle.invariant.proofs.Facts.{cond-elim, cond-same}
 use Rattle.invariant.proofs.Local.{goes-on, stops}
 
 pub p1-kept : (s : State) (i count : ℕ) (taken : List ℕ) (v : ℕ) (held : MaybeBlock) → Shared s → PushOk s i (P1 v held)
@@ -66,3 +66,33 @@ p2-kept s i count taken v t held h p =
     let n = eqb-false (off (t .raw)) 63 e in
     goes-on s i count taken (Push (P4 v t (TB s) held)) h
     (slot-kept s i count taken v t h held p (omega arith) (eqb-false (off (t .raw)) 62 g) l))))
+
+-- the ghost that is chosen is the old one
+pub p1-ghost : (s : State) (i count : ℕ) (taken : List ℕ) (v : ℕ) (held : MaybeBlock) (h : Shared s) (p : PushOk s i (P1 v held))
+    → p1-kept s i count taken v held h p .ghost ≡ s .ghost
+unfolding p1-kept goes-on
+p1-ghost s i count taken v held h p = refl
+
+module _ (s : State) (i count : ℕ) (taken : List ℕ) (v : ℕ) (t : Index) (h : Shared s) where
+  spent-ghost : (held : MaybeBlock) (p : HeldOk s i held) → spent-kept s i count taken v t h held p .ghost ≡ s .ghost
+  unfolding spent-kept goes-on stops
+  spent-ghost Nothing p = refl
+  spent-ghost (Block x) p = refl
+
+  last-ghost : (held : MaybeBlock) (p : P2Ok s i (t .raw) held) (o : off (t .raw) ≡ 62) (l : lp (t .raw) < L s)
+      → last-kept s i count taken v t h held p o l .ghost ≡ s .ghost
+  unfolding last-kept goes-on
+  last-ghost Nothing p o l = refl
+  last-ghost (Block x) p o l = refl
+
+  pub p2-ghost : (held : MaybeBlock) (p : PushOk s i (P2 v t held)) → p2-kept s i count taken v t held h p .ghost ≡ s .ghost
+  unfolding p2 p2-kept goes-on
+  p2-ghost held p =
+      cond-same (Kept s i count taken) (λ m k. k .ghost) (eqb (off (t .raw)) 63) _ _ _ _ (s .ghost) (λ e. refl)
+      (λ e.
+      cond-same (Kept s i count taken) (λ m k. k .ghost) (leb (L s) (lp (t .raw))) _ _ _ _ (s .ghost)
+      (λ f. spent-ghost held (p .holds))
+      (λ f.
+      cond-same (Kept s i count taken) (λ m k. k .ghost) (eqb (off (t .raw)) 62) _ _ _ _ (s .ghost)
+      (λ g. last-ghost held p _ _)
+      (λ g. refl)))

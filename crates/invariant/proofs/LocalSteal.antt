@@ -26,7 +26,7 @@ use Rattle.invariant.specs.State.{State, lp, off, T, H, HB, W, nxt, own}
 use Rattle.invariant.specs.Shared.{Shared}
 use Rattle.invariant.specs.Lines.{Room, AtHead, S2Ok, S3Ok, S4Ok, S6Ok, StealOk}
 use Rattle.invariant.specs.Kept.{Kept}
-use Rattle.invariant.proofs.Facts.{cond-elim, clash}
+use Rattle.invariant.proofs.Facts.{cond-elim, cond-same, clash}
 use Rattle.invariant.proofs.Local.{goes-on, stops}
 
 pub s1-kept : (s : State) (i count : ℕ) (taken : List ℕ) (k : Kind) → Shared s → StealOk s i count taken (S1 k)
@@ -162,20 +162,22 @@ s3-kept s i count taken k h b sh p =
 
 -- ---- S5, S6
 
+-- by what the block's next is
+s5-by : (s : State) (i count : ℕ) (taken : List ℕ) (k : Kind) (c : Claim) → Shared s → StealOk s i count taken (S5 k c)
+    → (n : MaybeBlock) → nxt s (c .block) ≡ n → Kept s i count taken (s5Next (s .queue) k c n)
+s5-by s i count taken k c h p Nothing e = goes-on s i count taken (Steal (S5 k c)) h p
+s5-by s i count taken k c h p (Block x) e =
+    goes-on s i count taken (Steal (S6 k c x)) h
+    (record {
+      leaves = p;
+      lap = h .next-lap (c .block) (lp (c .head .raw)) x (p .claims .serves) e;
+      chain = h .next-at (c .block) (lp (c .head .raw)) x (p .claims .serves) e;
+    })
+
 pub s5-kept : (s : State) (i count : ℕ) (taken : List ℕ) (k : Kind) (c : Claim) → Shared s → StealOk s i count taken (S5 k c)
     → Kept s i count taken (s5 (s .queue) (s .pool) k c)
 unfolding s5
-s5-kept s i count taken k c h p = go (nxt s (c .block)) refl
-  where
-    go : (n : MaybeBlock) → nxt s (c .block) ≡ n → Kept s i count taken (s5Next (s .queue) k c n)
-    go Nothing e = goes-on s i count taken (Steal (S5 k c)) h p
-    go (Block x) e =
-        goes-on s i count taken (Steal (S6 k c x)) h
-        (record {
-          leaves = p;
-          lap = h .next-lap (c .block) (lp (c .head .raw)) x (p .claims .serves) e;
-          chain = h .next-at (c .block) (lp (c .head .raw)) x (p .claims .serves) e;
-        })
+s5-kept s i count taken k c h p = s5-by s i count taken k c h p (nxt s (c .block)) refl
 
 -- the next block is open too, since the head is still in the lap before
 pub next-open : (s : State) (i : ℕ) (k : Kind) (count h b a x : ℕ) → Shared s → S6Ok s i k count h b a x
@@ -208,3 +210,42 @@ s9-kept s i count taken k c slot h p =
     cond-elim (Kept s i count taken) (W s (c .block) slot) _ _
     (λ e. goes-on s i count taken (Steal (S10 k c slot)) h (record { at = p; written = e }))
     (λ e. goes-on s i count taken (Steal (S9 k c slot)) h p)
+
+-- ---- the ghost that is chosen is the old one
+
+module _ (s : State) (i count : ℕ) (taken : List ℕ) (k : Kind) (h : Shared s) where
+  pub s1-ghost : (p : StealOk s i count taken (S1 k)) → s1-kept s i count taken k h p .ghost ≡ s .ghost
+  unfolding s1-kept goes-on
+  s1-ghost p = refl
+
+  pub s2-ghost : (u : Index) (p : StealOk s i count taken (S2 k u)) → s2-kept s i count taken k u h p .ghost ≡ s .ghost
+  unfolding s2 s2-kept goes-on
+  s2-ghost u p =
+      cond-same (Kept s i count taken) (λ m k. k .ghost) (eqb (off (u .raw)) 63) _ _ _ _ (s .ghost) (λ e. refl)
+      (λ e. cond-same (Kept s i count taken) (λ m k. k .ghost) (hasNext (u .raw)) _ _ _ _ (s .ghost) (λ f. refl) (λ f. refl))
+
+  pub s3-ghost : (u : Index) (b : ℕ) (p : StealOk s i count taken (S3 k u b)) → s3-kept s i count taken k u b h p .ghost ≡ s .ghost
+  unfolding s3 s3-kept goes-on stops
+  s3-ghost u b p =
+      cond-same (Kept s i count taken) (λ m k. k .ghost) (eqb (position (u .raw)) (position (T s))) _ _ _ _ (s .ghost)
+      (λ e. refl)
+      (λ e. refl)
+
+  s5-by-ghost : (c : Claim) (p : StealOk s i count taken (S5 k c)) (n : MaybeBlock) (e : nxt s (c .block) ≡ n)
+      → s5-by s i count taken k c h p n e .ghost ≡ s .ghost
+  unfolding s5-by goes-on
+  s5-by-ghost c p Nothing e = refl
+  s5-by-ghost c p (Block x) e = refl
+
+  pub s5-ghost : (c : Claim) (p : StealOk s i count taken (S5 k c)) → s5-kept s i count taken k c h p .ghost ≡ s .ghost
+  unfolding s5 s5-kept
+  s5-ghost c p = s5-by-ghost c p (nxt s (c .block)) refl
+
+  pub s6-ghost : (c : Claim) (x : ℕ) (p : StealOk s i count taken (S6 k c x)) → s6-kept s i count taken k c x h p .ghost ≡ s .ghost
+  unfolding s6-kept goes-on
+  s6-ghost c x p = refl
+
+  pub s9-ghost : (c : Claim) (slot : ℕ) (p : StealOk s i count taken (S9 k c slot)) → s9-kept s i count taken k c slot h p .ghost ≡ s .ghost
+  unfolding s9 s9-kept goes-on
+  s9-ghost c slot p =
+      cond-same (Kept s i count taken) (λ m k. k .ghost) (W s (c .block) slot) _ _ _ _ (s .ghost) (λ e. refl) (λ e. refl)

@@ -84,7 +84,7 @@ quiet-rely j s m o q =
     }
 
 -- a line that makes such a change keeps the invariant
-pub changes : (s : State) (i count : ℕ) (taken : List ℕ) (call : Call) (answer : Answer) (touch : Touch) (o : ℕ → Own)
+unfoldable pub changes : (s : State) (i count : ℕ) (taken : List ℕ) (call : Call) (answer : Answer) (touch : Touch) (o : ℕ → Own)
     → Shared (changed s (after (s .pool) touch) o)
     → ((j : ℕ) → (j ≡ i → ⊥) → Quiet j s (after (s .pool) touch) o)
     → CallOk (changed s (after (s .pool) touch) o) i count taken call
@@ -126,11 +126,11 @@ module _ (s : State) (h : Shared s) (b l f i : ℕ) (was : own s b ≡ Back l f 
   lap-kept : (a k : ℕ) → lapOf (own s a) ≡ some k → lapOf (lowered a) ≡ some k
   lap-kept a k e = put-elim (λ x. lapOf x ≡ some k) (s .ghost .own) b (Back l g t) a (λ q. sym lap-was ∙ rw q at e) (λ q. e)
 
-  lap-old : (a k : ℕ) → lapOf (lowered a) ≡ some k → lapOf (own s a) ≡ some k
+  pub lap-old : (a k : ℕ) → lapOf (lowered a) ≡ some k → lapOf (own s a) ≡ some k
   lap-old a k =
       put-elim (λ x. lapOf x ≡ some k → lapOf (own s a) ≡ some k) (s .ghost .own) b (Back l g t) a (λ q e. rw q (lap-was ∙ e)) (λ q e. e)
 
-  front-old : (a : ℕ) → front (lowered a) ≤ front (own s a)
+  pub front-old : (a : ℕ) → front (lowered a) ≤ front (own s a)
   front-old a =
       put-elim (λ x. front x ≤ front (own s a)) (s .ghost .own) b (Back l g t) a
       (λ q. rw (q, was) less)
@@ -148,7 +148,7 @@ module _ (s : State) (h : Shared s) (b l f i : ℕ) (was : own s b ≡ Back l f 
   open-kept : (a k : ℕ) → own s a ≡ Open k → lowered a ≡ Open k
   open-kept a k e = put-elim (λ x. x ≡ Open k) (s .ghost .own) b (Back l g t) a (λ q. differ (cc)) (λ q. e)
 
-  held-old : (a k : ℕ) → lowered a ≡ Held k → own s a ≡ Held k
+  pub held-old : (a k : ℕ) → lowered a ≡ Held k → own s a ≡ Held k
   held-old a k = put-elim (λ x. x ≡ Held k → own s a ≡ Held k) (s .ghost .own) b (Back l g t) a (λ q e. differ (cc)) (λ q e. e)
 
   held-kept : (a k : ℕ) → own s a ≡ Held k → lowered a ≡ Held k

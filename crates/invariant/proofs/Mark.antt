@@ -1,7 +1,7 @@
 -- A step that adds READ or DESTROY to a slot of a serving block; and S11, which marks what its thief has read.
 use Prim.Native.Nat.{ℕ, _+_, _*_, _-_, _≤_, _<_}
 use mathlib.Core.Path.{_≡_, refl, sym, ap, _∙_}
-use mathlib.Core.Bool.{true, false}
+use mathlib.Core.Bool.{true, false, cond}
 use mathlib.Core.Logic.{_⊎_, inl, inr, ⊎-elim}
 use mathlib.Core.List.{List}
 use native.Mathlib.Omega.{arith}
@@ -10,7 +10,7 @@ use borrow.Author.Tests.{eqb-false}
 use lib.Dec.{eqb}
 use Rattle.memory.specs.Layout.{state, has, or}
 use Rattle.memory.specs.Touch.{Touch, writesState, after}
-use Rattle.memory.specs.Laws.{length-after, state-written, state-writesState, token-writesState, next-writesState, free-writesState, has-or-other}
+use Rattle.memory.specs.Laws.{length-after, state-written, state-writesState, token-writesState, next-writesState, free-writesState, has-or, has-or-other}
 use Rattle.memory.specs.declared.Mark.{Mark}
 use Rattle.memory.specs.declared.Mark.the-variants.{Write, Read, Destroy}
 use Rattle.state.specs.declared.Claim.{Claim}
@@ -25,8 +25,8 @@ use Rattle.invariant.specs.State.{State, lp, off, nc, W, R, D, own}
 use Rattle.invariant.specs.Shared.{Shared}
 use Rattle.invariant.specs.Lines.{StealOk, S11Ok, Claims}
 use Rattle.invariant.specs.Kept.{Kept}
-use Rattle.invariant.proofs.Facts.{cond-elim, true-or-false, clash, some-inj, none-some, serving-number, room}
-use Rattle.invariant.proofs.Lower.{changed, changes, backed, Quiet, quiet-trans, differ, won-kept, walks-on, finish-shared, finish-quiet}
+use Rattle.invariant.proofs.Facts.{cond-elim, cond-read, cond-same, true-or-false, clash, some-inj, none-some, serving-number, room}
+use Rattle.invariant.proofs.Lower.{withOwn, changed, changes, backed, Quiet, quiet-trans, differ, won-kept, walks-on, finish-shared, finish-quiet}
 
 -- a mark that stands after another was added stood before, or is the one added
 had : (j k : Mark) (w : ℕ) → has j (or w k) ≡ true → (has j w ≡ true) ⊎ (j ≡ k)
@@ -39,6 +39,18 @@ had Read Destroy w e = inl (sym (has-or-other Read Destroy w (λ q. differ (cc))
 had Destroy Write w e = inl (sym (has-or-other Destroy Write w (λ q. differ (cc))) ∙ e)
 had Destroy Read w e = inl (sym (has-or-other Destroy Read w (λ q. differ (cc))) ∙ e)
 had Destroy Destroy w e = inr refl
+
+-- .. and one that stood stands
+stays : (j k : Mark) (w : ℕ) → has j w ≡ true → has j (or w k) ≡ true
+stays Write Write w e = has-or Write w
+stays Write Read w e = has-or-other Write Read w (λ q. differ (cc)) ∙ e
+stays Write Destroy w e = has-or-other Write Destroy w (λ q. differ (cc)) ∙ e
+stays Read Write w e = has-or-other Read Write w (λ q. differ (cc)) ∙ e
+stays Read Read w e = has-or Read w
+stays Read Destroy w e = has-or-other Read Destroy w (λ q. differ (cc)) ∙ e
+stays Destroy Write w e = has-or-other Destroy Write w (λ q. differ (cc)) ∙ e
+stays Destroy Read w e = has-or-other Destroy Read w (λ q. differ (cc)) ∙ e
+stays Destroy Destroy w e = has-or Destroy w
 
 -- a slot's state with one more mark
 abbrev pub marks : State → ℕ → ℕ → Mark → Touch
@@ -70,8 +82,15 @@ module _ (s : State) (h : Shared s) (b l o : ℕ) (k : Mark) (serves : lapOf (ow
       go (no n) (yes q) = rw (elsewhere a r v (λ x y. n x)) g
       go (no n) (no m) = rw (elsewhere a r v (λ x y. n x)) g
 
+  -- the mark stands now, and what stood before stands on
+  pub now-marked : has k (state new b o) ≡ true
+  now-marked = rw (here b o refl refl) (has-or k (state (s .pool) b o))
+
+  pub still-marked : (j : Mark) (a r : ℕ) → r < 63 → has j (state (s .pool) a r) ≡ true → has j (state new a r) ≡ true
+  still-marked j a r v e = each (λ w. has j w ≡ true) a r v (λ p q. stays j k (state (s .pool) b o) (rw (p, q) at e)) e
+
   -- another mark stays as it is
-  other : (j : Mark) → (j ≡ k → ⊥) → (a r : ℕ) → r < 63 → has j (state new a r) ≡ has j (state (s .pool) a r)
+  pub other : (j : Mark) → (j ≡ k → ⊥) → (a r : ℕ) → r < 63 → has j (state new a r) ≡ has j (state (s .pool) a r)
   other j n a r v =
       each (λ w. has j w ≡ has j (state (s .pool) a r)) a r v
       (λ p q. rw (p, q) (has-or-other j k (state (s .pool) b o) n))
@@ -263,7 +282,7 @@ module _ (s : State) (i : ℕ) (won : Won) (c : Claim) (slot : ℕ) (h : Shared 
     at-front : front (own s b) ≤ slot + 1
     at-front = h .destroy-front b (lp x) slot (k .claims .serves) inside seen-destroy
 
-    walker : resp (own s b) ≡ some i
+    pub walker : resp (own s b) ≡ some i
     walker =
         let e : off x + c .advance - 1 ≡ slot = omega (arith, at-front, k .claims .front, k .to) in
         k .claims .mine (rw e seen-destroy)
@@ -302,3 +321,17 @@ s11-kept s i count taken won c slot h k =
     cond-elim (λ (m : Move). Kept s i count taken m) (D s (c .block) slot) _ _
     (s11-destroyed s i won c slot h k count taken)
     (λ e. s11-marked s i won c slot h k count taken)
+
+-- the ghost that is chosen: where DESTROY was seen, the frontier is the first claimed slot
+module _ (s : State) (i count : ℕ) (taken : List ℕ) (won : Won) (c : Claim) (slot : ℕ) (h : Shared s)
+    (ok : StealOk s i count taken (S11 won c slot)) where
+  marked-ghost : s11-marked s i won c slot h ok count taken .ghost ≡ s .ghost
+  unfolding s11-marked changes
+  marked-ghost =
+      cond-same (λ (m : Move). Kept s i count taken m) (λ m k. k .ghost) (eqb (slot + 1) (past c)) _ _ _ _ (s .ghost) (λ e. refl) (λ e. refl)
+
+  pub s11-ghost : s11-kept s i count taken won c slot h ok .ghost
+      ≡ cond (D s (c .block) slot) (withOwn (s .ghost) (backed s (c .block) (lp (c .head .raw)) (first c) i)) (s .ghost)
+  unfolding s11 s11-kept s11-destroyed changes
+  s11-ghost =
+      cond-read (λ (m : Move). Kept s i count taken m) (λ m k. k .ghost) (D s (c .block) slot) _ _ _ _ _ _ (λ e. refl) (λ e. marked-ghost)

@@ -75,7 +75,7 @@ module _ (s : State) (x : ℕ) (w : Own) (touch : Touch) (h : Shared s) (change 
   owners : (P : Own → Type 0) (c : ℕ) → (c ≡ x → P w) → ((c ≡ x → ⊥) → P (own s c)) → P (own (given-on s x w touch) c)
   owners P c p q = put-elim P (own s) x w c p q
 
-  alike : (c : ℕ) → (c ≡ x → ⊥) → Alike (s .pool) (after (s .pool) touch) c
+  pub alike : (c : ℕ) → (c ≡ x → ⊥) → Alike (s .pool) (after (s .pool) touch) c
   alike c n = elsewhere (s .pool) touch c (change .aimed) (change .alone c n)
 
   by-block : (P : ℕ → Type 0) (c : ℕ) → P x → ((c ≡ x → ⊥) → P c) → P c
@@ -86,7 +86,7 @@ module _ (s : State) (x : ℕ) (w : Own) (touch : Touch) (h : Shared s) (change 
       at (no n) = q n
 
   -- a block that serves a lap is another one, and is as it was
-  served : (c l : ℕ) → lapOf (own (given-on s x w touch) c) ≡ some l → (lapOf (own s c) ≡ some l) × (c ≡ x → ⊥)
+  pub served : (c l : ℕ) → lapOf (own (given-on s x w touch) c) ≡ some l → (lapOf (own s c) ≡ some l) × (c ≡ x → ⊥)
   served c l =
       owners (λ v. lapOf v ≡ some l → (lapOf (own s c) ≡ some l) × (c ≡ x → ⊥)) c
       (λ e p. none-some l (sym (change .idle) ∙ p))
@@ -95,7 +95,7 @@ module _ (s : State) (x : ℕ) (w : Own) (touch : Touch) (h : Shared s) (change 
   was : (k : Mark) (c o : ℕ) → (c ≡ x → ⊥) → o < 63 → has k (state (s .pool) c o) ≡ has k (state (after (s .pool) touch) c o)
   was k c o n q = sym (ap (has k) (alike c n .states o q))
 
-  same-owner : (c : ℕ) → (c ≡ x → ⊥) → own (given-on s x w touch) c ≡ own s c
+  pub same-owner : (c : ℕ) → (c ≡ x → ⊥) → own (given-on s x w touch) c ≡ own s c
   same-owner c n = put-other (own s) x w c n
 
   serves-none : {A : Type 0} (v : Own) (l : ℕ) → lapOf v ≡ some l → w ≡ v → A
@@ -219,7 +219,7 @@ module _ (s : State) (i x : ℕ) (h : Shared s) (n : x < N s) (f : free s x ≡ 
   was-free : own s x ≡ Free
   was-free = h .taken x n f
 
-  p3-changes : Changes s x (Held i) (clears x)
+  pub p3-changes : Changes s x (Held i) (clears x)
   p3-changes =
       record {
         number = n;
@@ -294,7 +294,7 @@ freeing s x h n closed =
     }
 
 module _ (s : State) (i x : ℕ) (h : Shared s) (e : own s x ≡ Held i) where
-  p10-changes : Changes s x Free (frees x)
+  pub p10-changes : Changes s x Free (frees x)
   p10-changes = freeing s x h (held-number s h x i e) (λ l f. unlike (Held i) (Open l) refl (sym e ∙ f))
 
   p10-unwanted : Unwanted s i x (frees x)
@@ -319,7 +319,7 @@ p10-kept s i count taken x spent h ok =
 
 -- the walk is at the block's start: all its slots are finished with, so no push and no thief is left there
 module _ (s : State) (i : ℕ) (won : Won) (b : ℕ) (h : Shared s) (ok : WalkOk s i won b 0) where
-  s14-changes : Changes s b Free (frees b)
+  pub s14-changes : Changes s b Free (frees b)
   s14-changes =
       freeing s b h
       (serving-number s h b (ok .lap) (ap lapOf (ok .own)))
@@ -344,3 +344,29 @@ s14-kept s i count taken won b h ok =
       call = tt;
       others = given-rely s b Free (frees b) h (s14-changes s i won b h ok) i (s14-unwanted s i won b h ok);
     }
+
+-- ---- the ghosts that are chosen
+
+abbrev pub took : Ghost → ℕ → MaybeBlock → Ghost
+took g i Nothing = g
+took g i (Block x) = given g x (Held i)
+
+module _ (s : State) (i count : ℕ) (taken : List ℕ) (h : Shared s) where
+  p3-by-ghost : (v : ℕ) (t : Index) (b : ℕ) (ok : PushOk s i (P3 v t b)) (r : MaybeBlock) (e : pick (s .pool) (N s) ≡ r)
+      → p3-by s i count taken v t b h ok r e .ghost ≡ took (s .ghost) i r
+  unfolding p3-by stops
+  p3-by-ghost v t b ok Nothing e = refl
+  p3-by-ghost v t b ok (Block x) e = refl
+
+  pub p3-ghost : (v : ℕ) (t : Index) (b : ℕ) (ok : PushOk s i (P3 v t b))
+      → p3-kept s i count taken v t b h ok .ghost ≡ took (s .ghost) i (pick (s .pool) (N s))
+  unfolding p3 p3-kept
+  p3-ghost v t b ok = p3-by-ghost v t b ok (pick (s .pool) (N s)) refl
+
+  pub p10-ghost : (x : ℕ) (spent : Bool) (ok : PushOk s i (P10 x spent)) → p10-kept s i count taken x spent h ok .ghost ≡ given (s .ghost) x Free
+  unfolding p10-kept
+  p10-ghost x spent ok = refl
+
+  pub s14-ghost : (won : Won) (b : ℕ) (ok : StealOk s i count taken (S14 won b)) → s14-kept s i count taken won b h ok .ghost ≡ given (s .ghost) b Free
+  unfolding s14-kept
+  s14-ghost won b ok = refl

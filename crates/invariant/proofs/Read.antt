@@ -1,7 +1,7 @@
 -- S10: a token is read; with the last of a claim the tokens are handed over, and the marks or the walk begin.
 use Prim.Native.Nat.{ℕ, _+_, _*_, _-_, _≤_, _<_, min}
 use mathlib.Core.Path.{_≡_, refl, _∙_}
-use mathlib.Core.Bool.{Bool, true, false, _&&_}
+use mathlib.Core.Bool.{Bool, true, false, cond, _&&_}
 use mathlib.Core.List.{List}
 use native.Mathlib.Omega.{arith}
 use native.Mathlib.Nat.{le-refl}
@@ -31,7 +31,7 @@ use Rattle.invariant.specs.State.{State, lp, off, tk, np, W, tok}
 use Rattle.invariant.specs.Shared.{Shared}
 use Rattle.invariant.specs.Lines.{StealOk, Room, Tokens, Wrote, WonOk, S9Ok, S10Ok, S11Ok}
 use Rattle.invariant.specs.Kept.{StepKept}
-use Rattle.invariant.proofs.Facts.{cond-elim, clash}
+use Rattle.invariant.proofs.Facts.{cond-elim, cond-read, clash}
 use Rattle.invariant.proofs.Local.{rely-refl}
 use Rattle.invariant.proofs.Lower.{changed, withOwn, backed, Quiet, quiet-rely, walks-on, finish-shared, finish-quiet}
 
@@ -245,3 +245,27 @@ pub s10-tokens : (s : State) (i : ℕ) (t : Thread) (k : Kind) (c : Claim) (slot
     → getD (set (t .taken) (slot - first c) (token (s .pool) (c .block) slot)) j 0 ≡ s .ghost .pushed (tk (c .head .raw) + j)
 s10-tokens s i t k c slot h tokens full sized at last =
     all-tokens s i (t .ring .count) (t .taken) k c slot h sized at last
+
+-- the ghost that is chosen: where the claim ended the block, its frontier is the first claimed slot
+module _ (s : State) (i : ℕ) (t : Thread) (k : Kind) (c : Claim) (slot : ℕ) (h : Shared s)
+    (tokens : length (t .ring .tokens) ≡ 64) (full : t .ring .count ≤ 64) (sized : length (t .taken) ≡ 63)
+    (at : StealOk s i (t .ring .count) (t .taken) (S10 k c slot)) where
+  handed-ghost : (last : slot + 1 ≡ past c)
+      → handed s i t k c slot h tokens full sized at last .ghost
+      ≡ cond (eqb (past c) 63) (withOwn (s .ghost) (backed s (c .block) (lp (c .head .raw)) (first c) i)) (s .ghost)
+  unfolding handed ended marking
+  handed-ghost last =
+      cond-read (λ (line : StealLine). StepKept s i (handing (s .queue) t (got s i t k c slot h tokens full sized at) k c line)) (λ l k. k .ghost)
+      (eqb (past c) 63) _ _ _ _ _ _
+      (λ e. refl)
+      (λ e. refl)
+
+  pub s10-ghost : s10-kept s i t k c slot h tokens full sized at .ghost
+      ≡ cond (eqb (slot + 1) (past c))
+      (cond (eqb (past c) 63) (withOwn (s .ghost) (backed s (c .block) (lp (c .head .raw)) (first c) i)) (s .ghost))
+      (s .ghost)
+  unfolding s10 s10-kept reading
+  s10-ghost =
+      cond-read (λ (m : Stepped). StepKept s i (record { stepped = m; touch = leaves })) (λ m k. k .ghost) (eqb (slot + 1) (past c)) _ _ _ _ _ _
+      (λ e. handed-ghost (eqb-true (slot + 1) (past c) e))
+      (λ e. refl)

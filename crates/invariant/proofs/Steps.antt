@@ -36,7 +36,7 @@ use Rattle.invariant.proofs.Write.{p8-kept, p9-kept}
 use Rattle.invariant.proofs.Leave.{s7-kept, s8-kept}
 
 -- a line that changes of its thread the call alone: its ring and its array are as they were
-settles : (s : State) (i : ℕ) (t : Thread) (move : Move) → ThreadOk s i t → Kept s i (t .ring .count) (t .taken) move → StepKept s i (settled t move)
+unfoldable pub settles : (s : State) (i : ℕ) (t : Thread) (move : Move) → ThreadOk s i t → Kept s i (t .ring .count) (t .taken) move → StepKept s i (settled t move)
 settles s i t move p k =
     record {
       ghost = k .ghost;
@@ -46,7 +46,7 @@ settles s i t move p k =
     }
 
 module _ (s : State) (i count : ℕ) (taken : List ℕ) (h : Shared s) where
-  push-kept : (line : PushLine) → PushOk s i line → Kept s i count taken (push (s .queue) (s .pool) line)
+  unfoldable pub push-kept : (line : PushLine) → PushOk s i line → Kept s i count taken (push (s .queue) (s .pool) line)
   push-kept (P1 v held) p = p1-kept s i count taken v held h p
   push-kept (P2 v t held) p = p2-kept s i count taken v t held h p
   push-kept (P3 v t b) p = p3-kept s i count taken v t b h p
@@ -58,17 +58,17 @@ module _ (s : State) (i count : ℕ) (taken : List ℕ) (h : Shared s) where
   push-kept (P9 v t b held) p = p9-kept s i count taken v t b held h p
   push-kept (P10 x spent) p = p10-kept s i count taken x spent h p
 
-  length-kept : (line : LengthLine) → LengthOk s line → Kept s i count taken (Rattle.count.specs.Count.length (s .queue) line)
+  unfoldable pub length-kept : (line : LengthLine) → LengthOk s line → Kept s i count taken (Rattle.count.specs.Count.length (s .queue) line)
   length-kept L1 p = l1-kept s i count taken h p
   length-kept (L2 t) p = l2-kept s i count taken t h p
   length-kept (L3 t u) p = l3-kept s i count taken t u h p
 
-  empty-kept : (line : EmptyLine) → EmptyOk s line → Kept s i count taken (Rattle.count.specs.Count.empty (s .queue) line)
+  unfoldable pub empty-kept : (line : EmptyLine) → EmptyOk s line → Kept s i count taken (Rattle.count.specs.Count.empty (s .queue) line)
   empty-kept E1 p = e1-kept s i count taken h p
   empty-kept (E2 t) p = e2-kept s i count taken t h p
 
 module _ (s : State) (i : ℕ) (t : Thread) (h : Shared s) where
-  steal-kept : (line : StealLine) → ThreadOk s i t → StealOk s i (t .ring .count) (t .taken) line
+  unfoldable pub steal-kept : (line : StealLine) → ThreadOk s i t → StealOk s i (t .ring .count) (t .taken) line
       → StepKept s i (steal (s .queue) (s .pool) t line)
   steal-kept (S1 k) q p = settles s i t _ q (s1-kept s i (t .ring .count) (t .taken) k h p)
   steal-kept (S2 k u) q p = settles s i t _ q (s2-kept s i (t .ring .count) (t .taken) k u h p)
@@ -86,7 +86,7 @@ module _ (s : State) (i : ℕ) (t : Thread) (h : Shared s) where
   steal-kept (S14 won b) q p = settles s i t _ q (s14-kept s i (t .ring .count) (t .taken) won b h p)
 
   -- with no call open nothing is done
-  call-kept : (call : Call) → ThreadOk s i t → CallOk s i (t .ring .count) (t .taken) call
+  unfoldable pub call-kept : (call : Call) → ThreadOk s i t → CallOk s i (t .ring .count) (t .taken) call
       → StepKept s i (stepAt (s .queue) (s .pool) t call)
   call-kept Idle q p = record { ghost = s .ghost; shared = h; thread = q; others = λ j n. rely-refl j s }
   call-kept (Push line) q p = settles s i t _ q (push-kept s i (t .ring .count) (t .taken) h line p)
@@ -94,6 +94,6 @@ module _ (s : State) (i : ℕ) (t : Thread) (h : Shared s) where
   call-kept (Length line) q p = settles s i t _ q (length-kept s i (t .ring .count) (t .taken) h line p)
   call-kept (Empty line) q p = settles s i t _ q (empty-kept s i (t .ring .count) (t .taken) h line p)
 
-pub step-kept : (s : State) (i : ℕ) (t : Thread) → Shared s → ThreadOk s i t → StepKept s i (stepOf (s .queue) (s .pool) t)
+unfoldable pub step-kept : (s : State) (i : ℕ) (t : Thread) → Shared s → ThreadOk s i t → StepKept s i (stepOf (s .queue) (s .pool) t)
 unfolding stepOf
 step-kept s i t h p = call-kept s i t h (t .call) p (p .call)

@@ -22,7 +22,7 @@ use Rattle.invariant.specs.Shared.{Shared}
 use Rattle.invariant.specs.Lines.{HeldOk, Owes, P4Ok, PushOk}
 use Rattle.invariant.specs.Rely.{Rely}
 use Rattle.invariant.specs.Kept.{Kept, moved}
-use Rattle.invariant.proofs.Facts.{cond-elim, true-or-false, clash, put, put-same, put-other}
+use Rattle.invariant.proofs.Facts.{cond-elim, true-or-false, put, put-same, put-other}
 use Rattle.invariant.proofs.Local.{goes-on}
 
 -- the ticket of the index t is logged: its token v, and the thread i
@@ -199,15 +199,19 @@ pub p4-ticket : (s : State) (v : ℕ) (t : Index) (b : ℕ) (held : MaybeBlock) 
 unfolding p4
 p4-ticket s v t b held g slot e = (ap tk (sym e), rw (eq-eqb (T s) (t .raw) e) (omega arith))
 
--- .. and where the compare held, the ghost has its token and its thread there
+-- the ghost that is chosen, by the compare's outcome
 module _ (s : State) (i count : ℕ) (taken : List ℕ) (v : ℕ) (t : Index) (b : ℕ) (held : MaybeBlock)
     (h : Shared s) (ok : PushOk s i (P4 v t b held)) where
-  by-logged : (c : Bool) (q : eqb (T s) (t .raw) ≡ c) → T s ≡ t .raw
-      → p4-by s i count taken v t b held h ok c q .ghost ≡ ticketed (s .ghost) i v (t .raw)
-  unfolding p4-by p4-won
-  by-logged true q e = refl
-  by-logged false q e = clash (eqb (T s) (t .raw)) (eq-eqb (T s) (t .raw) e) q
+  by-ghost : (c : Bool) (q : eqb (T s) (t .raw) ≡ c)
+      → p4-by s i count taken v t b held h ok c q .ghost ≡ cond c (ticketed (s .ghost) i v (t .raw)) (s .ghost)
+  unfolding p4-by p4-won p4-lost goes-on
+  by-ghost true q = refl
+  by-ghost false q = refl
 
-  pub p4-logged : T s ≡ t .raw → p4-kept s i count taken v t b held h ok .ghost ≡ ticketed (s .ghost) i v (t .raw)
+  pub p4-ghost : p4-kept s i count taken v t b held h ok .ghost ≡ cond (eqb (T s) (t .raw)) (ticketed (s .ghost) i v (t .raw)) (s .ghost)
   unfolding p4 p4-kept
-  p4-logged e = by-logged (eqb (T s) (t .raw)) refl e
+  p4-ghost = by-ghost (eqb (T s) (t .raw)) refl
+
+  -- where it held, the ghost has the ticket's token and its thread
+  pub p4-logged : T s ≡ t .raw → p4-kept s i count taken v t b held h ok .ghost ≡ ticketed (s .ghost) i v (t .raw)
+  p4-logged e = rw (eq-eqb (T s) (t .raw) e) at p4-ghost

@@ -1,8 +1,8 @@
 -- The walk down a block: S12 and S13. READ seen, the frontier sinks by a slot; else S13 leaves DESTROY there, and the
 -- slot's claimer carries the walk on.
 use Prim.Native.Nat.{ℕ, _+_, _*_, _<_}
-use mathlib.Core.Path.{_≡_, ap, _∙_}
-use mathlib.Core.Bool.{true}
+use mathlib.Core.Path.{_≡_, refl, ap, _∙_}
+use mathlib.Core.Bool.{true, cond}
 use mathlib.Core.List.{List}
 use native.Mathlib.Omega.{arith}
 use Rattle.memory.specs.Touch.{leaves}
@@ -18,9 +18,9 @@ use Rattle.invariant.specs.State.{State, R, own}
 use Rattle.invariant.specs.Shared.{Shared}
 use Rattle.invariant.specs.Lines.{StealOk, WalkOk}
 use Rattle.invariant.specs.Kept.{Kept}
-use Rattle.invariant.proofs.Facts.{cond-elim, clash, put-same}
+use Rattle.invariant.proofs.Facts.{cond-elim, cond-read, clash, put-same}
 use Rattle.invariant.proofs.Local.{goes-on}
-use Rattle.invariant.proofs.Lower.{changed, changes, backed, Quiet, quiet-trans, differ, walks-on, lower-shared, lower-quiet}
+use Rattle.invariant.proofs.Lower.{withOwn, changed, changes, backed, Quiet, quiet-trans, differ, walks-on, lower-shared, lower-quiet}
 use Rattle.invariant.proofs.Mark.{marks, marked, mark-shared, mark-quiet}
 
 module _ (s : State) (i : ℕ) (won : Won) (b w : ℕ) (h : Shared s) (k : WalkOk s i won b (w + 1)) where
@@ -119,3 +119,19 @@ s13-kept s i count taken won b w h k =
     (handed-shared s i won b w h k)
     (handed-quiet s i won b w h k)
     tt)
+
+-- the ghosts that are chosen
+module _ (s : State) (i count : ℕ) (taken : List ℕ) (won : Won) (b w : ℕ) (h : Shared s) where
+  pub s12-ghost : (ok : StealOk s i count taken (S12 won b w))
+      → s12-kept s i count taken won b w h ok .ghost ≡ cond (R s b w) (withOwn (s .ghost) (backed s b (ok .lap) w i)) (s .ghost)
+  unfolding s12 s12-kept changes goes-on
+  s12-ghost ok =
+      cond-read (λ (m : Move). Kept s i count taken m) (λ m k. k .ghost) (R s b w) _ _ _ _ _ _ (λ e. refl) (λ e. refl)
+
+  pub s13-ghost : (ok : StealOk s i count taken (S13 won b w))
+      → s13-kept s i count taken won b w h ok .ghost
+      ≡ cond (R s b w) (withOwn (s .ghost) (backed s b (ok .lap) w i))
+      (withOwn (s .ghost) (backed s b (ok .lap) (w + 1) (s .ghost .claimer (63 * ok .lap + w))))
+  unfolding s13 s13-kept changes
+  s13-ghost ok =
+      cond-read (λ (m : Move). Kept s i count taken m) (λ m k. k .ghost) (R s b w) _ _ _ _ _ _ (λ e. refl) (λ e. refl)

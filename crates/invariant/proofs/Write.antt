@@ -193,14 +193,18 @@ module _ (s : State) (i v t b : ℕ) (h : Shared s) (owes : Owes s i v t b) wher
       (λ e f. ap₂ (λ x y. has k (state (s .pool) x y)) e f ∙ sym (has-or-other k Write (state (s .pool) b (off t)) n))
       (λ m. refl)
 
-  read-kept : (c o : ℕ) → o < 63 → R s c o ≡ R (marked-on s t b) c o
+  pub read-kept : (c o : ℕ) → o < 63 → R s c o ≡ R (marked-on s t b) c o
   read-kept c o q = kept Read c o (λ e. absurd (let z : _≡_ {A = ℕ} 0 1 = cc in omega arith)) q
 
-  destroy-kept : (c o : ℕ) → o < 63 → D s c o ≡ D (marked-on s t b) c o
+  pub destroy-kept : (c o : ℕ) → o < 63 → D s c o ≡ D (marked-on s t b) c o
   destroy-kept c o q = kept Destroy c o (λ e. absurd (let z : _≡_ {A = ℕ} 0 1 = cc in omega arith)) q
 
-  still : (c o : ℕ) → o < 63 → W s c o ≡ true → W (marked-on s t b) c o ≡ true
+  pub still : (c o : ℕ) → o < 63 → W s c o ≡ true → W (marked-on s t b) c o ≡ true
   still c o q m = words (λ w. has Write w ≡ true) c o q (λ e f. has-or Write (state (s .pool) b (off t))) (λ n. m)
+
+  pub now-written : W (marked-on s t b) b (off t) ≡ true
+  now-written =
+      words (λ w. has Write w ≡ true) b (off t) (owes .slot) (λ e f. has-or Write (state (s .pool) b (off t))) (λ n. absurd (n refl refl))
 
   newly : (A : Type 0) (c o : ℕ) → o < 63 → (c ≡ b → o ≡ off t → A) → (W s c o ≡ true → A) → W (marked-on s t b) c o ≡ true → A
   newly A c o q here there = words (λ w. has Write w ≡ true → A) c o q (λ e f m. here e f) (λ n. there)
@@ -310,3 +314,18 @@ pub p9-kept : (s : State) (i count : ℕ) (taken : List ℕ) (v : ℕ) (t : Inde
     → Shared s → PushOk s i (P9 v t b held) → Kept s i count taken (p9 (s .queue) (s .pool) v t b held)
 unfolding p9
 p9-kept s i count taken v t b held h ok = p9-by s i count taken v t b held h ok
+
+-- the ghost that is chosen is the old one
+module _ (s : State) (i count : ℕ) (taken : List ℕ) (v : ℕ) (t : Index) (b : ℕ) (h : Shared s) where
+  pub p8-ghost : (held : MaybeBlock) (ok : PushOk s i (P8 v t b held)) → p8-kept s i count taken v t b held h ok .ghost ≡ s .ghost
+  unfolding p8-kept
+  p8-ghost held ok = refl
+
+  p9-by-ghost : (held : MaybeBlock) (ok : PushOk s i (P9 v t b held)) → p9-by s i count taken v t b held h ok .ghost ≡ s .ghost
+  unfolding p9-by
+  p9-by-ghost Nothing ok = refl
+  p9-by-ghost (Block x) ok = refl
+
+  pub p9-ghost : (held : MaybeBlock) (ok : PushOk s i (P9 v t b held)) → p9-kept s i count taken v t b held h ok .ghost ≡ s .ghost
+  unfolding p9 p9-kept
+  p9-ghost held ok = p9-by-ghost held ok

@@ -26,10 +26,10 @@ use Rattle.invariant.proofs.Facts.{clash, put, put-same, put-other, none-some}
 use Rattle.promise.proofs.Tally.{none-yet}
 use Rattle.promise.proofs.World.{stateOf, Mine, World}
 
-abbrev firstOwn : ℕ → Own
+abbrev pub firstOwn : ℕ → Own
 firstOwn = put (λ b. Free) 0 (Open 0)
 
-abbrev firstGhost : Ghost
+abbrev pub firstGhost : Ghost
 firstGhost = record { pushed = λ k. 0; pusher = λ k. 0; claimer = λ k. 0; chain = λ l. 0; own = firstOwn; first = λ i. 0 }
 
 -- two owners that are not equal
@@ -45,7 +45,7 @@ own-is b = go (ℕ-discrete b 0)
     go (no n) = inr (omega arith, put-other (λ x. Free) 0 (Open 0) b n)
 
 module _ (threads blocks ceiling : ℕ) (two : 2 ≤ blocks) where
-  abbrev first : State
+  abbrev pub first : State
   first = stateOf (atStart threads blocks ceiling) (fresh (poolLen threads blocks) blocks) firstGhost
 
   -- who has a block that is not free
@@ -56,14 +56,14 @@ module _ (threads blocks ceiling : ℕ) (two : 2 ≤ blocks) where
       (λ (p : (1 ≤ b) × (firstOwn b ≡ Free)). let q : firstOwn b ≡ Free = p .1 in apart (cc))
       (own-is b)
 
-  no-held : {A : Type 0} (b i : ℕ) → own first b ≡ Held i → A
+  pub no-held : {A : Type 0} (b i : ℕ) → own first b ≡ Held i → A
   no-held b i e =
       ⊎-elim
       (λ (p : (b ≡ 0) × (firstOwn b ≡ Open 0)). let q : firstOwn b ≡ Open 0 = p .1 in apart (cc))
       (λ (p : (1 ≤ b) × (firstOwn b ≡ Free)). let q : firstOwn b ≡ Free = p .1 in apart (cc))
       (own-is b)
 
-  no-back : {A : Type 0} (b l f i : ℕ) → own first b ≡ Back l f i → A
+  pub no-back : {A : Type 0} (b l f i : ℕ) → own first b ≡ Back l f i → A
   no-back b l f i e =
       ⊎-elim
       (λ (p : (b ≡ 0) × (firstOwn b ≡ Open 0)). let q : firstOwn b ≡ Open 0 = p .1 in apart (cc))
@@ -142,7 +142,7 @@ module _ (threads blocks ceiling : ℕ) (two : 2 ≤ blocks) where
         front-written = λ b l o e h f. absurd (front-last b l o e h f);
       }
 
-  idle-ok : (n : ℕ) (f : Flavor) → ThreadOk first n (idleThread f)
+  pub idle-ok : (n : ℕ) (f : Flavor) → ThreadOk first n (idleThread f)
   idle-ok n f =
       record { tokens = length-replicate {A = ℕ} 64 0; count = omega arith; taken = length-replicate {A = ℕ} 63 0; call = tt }
 

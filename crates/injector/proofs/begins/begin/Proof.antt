@@ -47,9 +47,10 @@ not-begun-requires-3 c κs = search needs
 
 returns-3 : tie.Need-returns-3
 returns-3 c =
-    let passes = sym (c .before .before .before .before .before .before .before .before .test .ensures) ∙ c .before .before .before .before .before .before .enum-told .given .1 in
-    let idle = told-true (c .before .before .before .before .before .is-idle .ensures) (c .before .before .before .before .if1 .left) in
-    let kind = c .before .before .before .tested-as .ensures in
+    let asked = c .before .before .before in
+    let passes = sym (asked .before .before .before .before .before .test .ensures) ∙ asked .before .before .before .enum-told .given .1 in
+    let idle = told-true (asked .before .before .is-idle .ensures) (asked .before .if1 .left) in
+    let kind = asked .tested-as .ensures in
     let limit = told-false (c .before .before .limit-good .ensures ∙ ap limitGood kind) (c .before .if2 .taken) in
     c .not-begun3 .ensures ∙ sym (begin-no-limit _ _ _ _ passes _ idle limit)
 
@@ -61,12 +62,14 @@ not-begun-requires-4 c κs = search needs
 
 returns-4 : tie.Need-returns-4
 returns-4 c =
-    let passes = sym (c .before .before .before .before .before .before .before .before .before .before .before .test .ensures) ∙ c .before .before .before .before .before .before .before .before .before .enum-told .given .1 in
-    let idle = told-true (c .before .before .before .before .before .before .before .before .is-idle .ensures) (c .before .before .before .before .before .before .before .if1 .left) in
-    let kind = c .before .before .before .before .before .before .tested-as .ensures in
+    let asked = c .before .before .before .before .before .before in
+    let passes = sym (asked .before .before .before .before .before .test .ensures) ∙ asked .before .before .before .enum-told .given .1 in
+    let idle = told-true (asked .before .before .is-idle .ensures) (asked .before .if1 .left) in
+    let kind = asked .tested-as .ensures in
     let limit = told-true (c .before .before .before .before .before .limit-good .ensures ∙ ap limitGood kind) (c .before .before .before .before .if2 .left) in
-    let count = c .before .before .before .before .before .before .before .before .before .before .before .before .before .args .thread .ring .count in
-    let room = told-false (c .before .before .room-good .ensures ∙ ap (λ (k : Kind). roomGood k count) kind) (c .before .if3 .taken) in
+    let count = asked .before .before .before .before .before .before .before .args .thread .ring .count in
+    let same = c .before .before .room-good .ensures ∙ ap (λ (k : Kind). roomGood k count) kind in
+    let room = told-false same (c .before .if3 .taken) in
     c .not-begun4 .ensures ∙ sym (begin-no-room _ _ _ _ passes _ idle limit room)
 
 open-requires : tie.Need-open-requires
@@ -74,12 +77,14 @@ open-requires c κs = search needs
 
 returns-5 : tie.Need-returns-5
 returns-5 c =
-    let passes = sym (c .before .before .before .before .before .before .before .before .before .before .before .before .test .ensures) ∙ c .before .before .before .before .before .before .before .before .before .before .enum-told .given .1 in
-    let idle = told-true (c .before .before .before .before .before .before .before .before .before .is-idle .ensures) (c .before .before .before .before .before .before .before .before .if1 .left) in
-    let kind = c .before .before .before .before .before .before .before .tested-as .ensures in
+    let asked = c .before .before .before .before .before .before .before in
+    let passes = sym (asked .before .before .before .before .before .test .ensures) ∙ asked .before .before .before .enum-told .given .1 in
+    let idle = told-true (asked .before .before .is-idle .ensures) (asked .before .if1 .left) in
+    let kind = asked .tested-as .ensures in
     let limit = told-true (c .before .before .before .before .before .before .limit-good .ensures ∙ ap limitGood kind) (c .before .before .before .before .before .if2 .left) in
-    let count = c .before .before .before .before .before .before .before .before .before .before .before .before .before .before .args .thread .ring .count in
-    let room = told-true (c .before .before .before .room-good .ensures ∙ ap (λ (k : Kind). roomGood k count) kind) (c .before .before .if3 .left) in
+    let count = asked .before .before .before .before .before .before .before .args .thread .ring .count in
+    let same = c .before .before .before .room-good .ensures ∙ ap (λ (k : Kind). roomGood k count) kind in
+    let room = told-true same (c .before .before .if3 .left) in
     rw (c .«open» .ensures) (sym (begin-made _ _ _ _ passes _ idle limit room))
 
 pub begin-spec : {M : Type 1} → statement M

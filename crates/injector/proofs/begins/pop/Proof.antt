@@ -42,9 +42,10 @@ popped-as-requires c κs = search needs
 
 returns-3 : tie.Need-returns-3
 returns-3 c =
-    let passes = sym (c .before .before .before .before .before .before .before .before .test .ensures) ∙ c .before .before .before .before .before .before .enum-told .given .1 in
-    let idle = told-true (c .before .before .before .before .before .is-idle .ensures) (c .before .before .before .before .if1 .left) in
-    rw (pop-made _ _ _ _ passes idle) (rw (c .popped-as .ensures, c .before .before .before .pop .ensures))
+    let popped = c .before .before .before in
+    let passes = sym (popped .before .before .before .before .before .test .ensures) ∙ popped .before .before .before .enum-told .given .1 in
+    let idle = told-true (popped .before .before .is-idle .ensures) (popped .before .if1 .left) in
+    rw (pop-made _ _ _ _ passes idle) (rw (c .popped-as .ensures, popped .pop .ensures))
 
 pub pop-spec : {M : Type 1} → statement M
 pop-spec =

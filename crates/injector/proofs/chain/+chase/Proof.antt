@@ -137,8 +137,9 @@ chase-returns-4 : (t : ℕ) → chase-lts.Need-returns-4 (
   chase-reads.Post,
 ) (chase-at t) chase-reads.Post
 chase-returns-4 t c =
-    let link = sym (c .before .before .before .before .next .ensures) ∙ c .before .before .next2 .given .1 in
-    c .chase .ensures ∙ sym (goes-on _ _ _ _ _ (c .before .before .before .before .before .before .if1 .left) (c .before .before .before .before .before .if2 .left) link)
+    let found = c .before .before .before .before in
+    let link = sym (found .next .ensures) ∙ c .before .before .next2 .given .1 in
+    c .chase .ensures ∙ sym (goes-on _ _ _ _ _ (found .before .before .if1 .left) (found .before .if2 .left) link)
 
 pub +chase-spec : {M : Type 1} → statement M
 +chase-spec = close μ-chase λ t. chase-lts.spec (

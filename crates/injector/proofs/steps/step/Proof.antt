@@ -51,10 +51,10 @@ same-length-3 c = search needs
 
 returns-3 : tie.Need-returns-3
 returns-3 c =
-    let passes = sym (c .before .before .before .before .before .before .before .before .before .before .test .ensures) ∙ c .before .before .before .before .before .before .before .before .enum-told .given .1 in
-    let busy = sym (c .before .before .before .before .before .before .before .is-idle .ensures) ∙ c .before .before .before .before .before .before .if1 .left in
-    let made = c .before .before .before .before .advance .ensures in
-    rw (step-made _ _ _ _ passes busy) (rw (made .0), made .1)
+    let stepped = c .before .before .before .before in
+    let passes = sym (stepped .before .before .before .before .before .before .test .ensures) ∙ stepped .before .before .before .before .enum-told .given .1 in
+    let busy = sym (stepped .before .before .before .is-idle .ensures) ∙ stepped .before .before .if1 .left in
+    rw (step-made _ _ _ _ passes busy) (rw (stepped .advance .ensures .0), stepped .advance .ensures .1)
 
 pub step-spec : {M : Type 1} → statement M
 step-spec =

@@ -25,15 +25,15 @@ returns-2 c =
 returns-3 : tie.Need-returns-3
 unfolding tested
 returns-3 c =
-    let setup = told-true (c .before .before .before .before .before .setup-good .ensures) (c .before .before .before .before .if1 .left) in
-    let state = told-true (c .before .before .before .state-good .ensures) (c .before .before .if2 .left) in
+    let setup = told-true (c .before .before .before .before .setup-good .ensures) (c .before .before .before .if1 .left) in
+    let state = told-true (c .before .before .state-good .ensures) (c .before .if2 .left) in
     rw (setup, state, le-ltb _ _ (c .if3 .taken))
 
 returns-4 : tie.Need-returns-4
 unfolding tested
 returns-4 c =
-    let setup = told-true (c .before .before .before .before .before .setup-good .ensures) (c .before .before .before .before .if1 .left) in
-    let state = told-true (c .before .before .before .state-good .ensures) (c .before .before .if2 .left) in
+    let setup = told-true (c .before .before .before .before .setup-good .ensures) (c .before .before .before .if1 .left) in
+    let state = told-true (c .before .before .state-good .ensures) (c .before .if2 .left) in
     rw (setup, state, lt-ltb _ _ (c .if3 .left))
 
 pub test-spec : {M : Type 1} → statement M
