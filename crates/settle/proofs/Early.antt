@@ -1,12 +1,12 @@
 -- What a step makes of a call, as far as early calls go: it leaves the early lines, or is nearer to leaving them, or was
 -- past them before; and then it moves the tail or the head only if that waited at offset 63.
-use Prim.Native.Nat.{ℕ, _+_, _*_, _-_, _≤_, _<_}
-use mathlib.Core.Path.{_≡_, refl, sym, ap, _∙_}
+use Prim.Native.Nat.{ℕ, _+_, _-_, _<_}
+use mathlib.Core.Path.{_≡_, refl, sym, _∙_}
 use mathlib.Core.Bool.{Bool, true, false, cond}
 use mathlib.Core.List.{List}
 use native.Mathlib.Omega.{arith}
 use lib.Dec.{eqb, leb}
-use borrow.Author.Tests.{eq-eqb, ne-eqb, eqb-true, eqb-false}
+use borrow.Author.Tests.{eq-eqb, eqb-true}
 use Rattle.memory.specs.declared.MaybeBlock.{MaybeBlock}
 use Rattle.memory.specs.declared.MaybeBlock.the-variants.{Nothing, Block}
 use Rattle.memory.specs.Layout.{state, next, has}
@@ -31,11 +31,11 @@ use Rattle.state.specs.declared.EmptyLine.the-variants.{E1, E2}
 use Rattle.state.specs.declared.Call.{Call}
 use Rattle.state.specs.declared.Call.the-variants.{Idle, Push, Steal, Length, Empty}
 use Rattle.state.specs.declared.Thread.{Thread}
-use Rattle.push.specs.Push.{push, p2, p2Spent, p2Last, p3, p3Took, p4, p4Last, p9, p9Ends}
+use Rattle.push.specs.Push.{push, p2, p2Spent, p2Last, p3, p3Took, p4, p4Last, p9}
 use Rattle.steal.specs.Steal.{steal, first, past, walkBelow, s2, s3, s4, s5, s5Next, s9, s10, s11, s12, s13}
 use Rattle.count.specs.Count.{l3, e2}
 use Rattle.injector.specs.Step.{stepAt, stepOf, isIdle}
-use Rattle.invariant.specs.Ghost.{Maybe, none, some}
+use Rattle.invariant.specs.Ghost.{none, some}
 use Rattle.invariant.specs.State.{State, off, T, H}
 use Rattle.invariant.specs.Lines.{PushOk, StealOk, CallOk}
 use Rattle.invariant.proofs.Facts.{cond-elim, clash, none-some}

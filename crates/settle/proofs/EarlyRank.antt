@@ -1,6 +1,6 @@
 -- The ranks of early calls: their bounds, and that an early call has one.
 use Prim.Native.Nat.{ℕ, _+_, _*_, _-_, _≤_, _<_}
-use mathlib.Core.Path.{_≡_, refl, sym, ap, subst, _∙_}
+use mathlib.Core.Path.{_≡_, refl, sym, ap, _∙_}
 use mathlib.Core.Bool.{Bool, true, false, cond}
 use mathlib.Core.Logic.{_⊎_, inl, inr, ⊎-elim}
 use native.Mathlib.Omega.{arith}
@@ -21,8 +21,8 @@ use Rattle.state.specs.declared.Call.{Call}
 use Rattle.state.specs.declared.Call.the-variants.{Idle, Push, Steal, Length, Empty}
 use Rattle.invariant.specs.Ghost.{Maybe, none, some}
 use Rattle.invariant.specs.State.{State, lp, off, tk, T, H, np, nc}
-use Rattle.invariant.specs.Lines.{CallOk, PushOk}
-use Rattle.invariant.proofs.Facts.{cond-elim, clash, none-some, some-inj, true-or-false}
+use Rattle.invariant.specs.Lines.{CallOk}
+use Rattle.invariant.proofs.Facts.{clash, none-some, some-inj}
 use Rattle.settle.specs.Views.{links, installs, leaves, pushInstalls, stealLeaves, pushLinks}
 use Rattle.settle.specs.Owed.{Owed}
 use Rattle.settle.specs.Early.{earlyPush, earlySteal, isEarly, atTail, atHead, blocked, pushRank, stealRank, rank, installRank, leaveRank, linkRank, awaits, Rank, free, tail-waits, head-waits, link-waits}
@@ -167,6 +167,21 @@ early-links n (Push line) e f = early-push-links n line e f
 early-links n (Steal line) e f = none-some n f
 early-links n (Length line) e f = none-some n f
 early-links n (Empty line) e f = none-some n f
+
+-- who awaits a link does not link
+pub not-both : (c : Call) (n l : ℕ) → awaits c ≡ some n → links c ≡ some l → ⊥
+not-both c n l a b = go c (awaiting n c a) b
+  where
+    go : (d : Call) → Awaiting n d → links d ≡ some l → ⊥
+    go d (waits k f z) g = none-some l g
+
+pub link-above : (c : Call) (n : ℕ) → links c ≡ some n → 8 < linkRank c
+link-above c n l = go c (linking n c l)
+  where
+    go : (d : Call) → Linking n d → 8 < linkRank d
+    go d (in5 v t b y z) = omega arith
+    go d (in6 v t b y z) = omega arith
+    go d (in7 v t b y z) = omega arith
 
 -- ---- bounds
 

@@ -11,17 +11,14 @@ use borrow.Author.Tests.{ne-eqb, eqb-false}
 use Rattle.index.specs.Position.{position}
 use Rattle.index.specs.Claim.{advanced, leftLap}
 use Rattle.index.specs.Laws.{left-lap, advanced-position}
-use Rattle.index.specs.declared.Index.{Index}
 use Rattle.memory.specs.Layout.{next}
 use Rattle.memory.specs.declared.MaybeBlock.{MaybeBlock}
 use Rattle.memory.specs.declared.MaybeBlock.the-variants.{Nothing, Block}
 use Rattle.state.specs.declared.Queue.{Queue}
 use Rattle.state.specs.declared.Kind.{Kind}
 use Rattle.state.specs.declared.Claim.{Claim}
-use Rattle.state.specs.declared.PushLine.{PushLine}
-use Rattle.state.specs.declared.PushLine.the-variants.{P5, P6, P7, P8}
-use Rattle.state.specs.declared.StealLine.{StealLine}
-use Rattle.state.specs.declared.StealLine.the-variants.{S5, S6, S7, S8, S9}
+use Rattle.state.specs.declared.PushLine.the-variants.{P6, P7, P8}
+use Rattle.state.specs.declared.StealLine.the-variants.{S5, S6, S7, S8}
 use Rattle.state.specs.declared.LengthLine.the-variants.{L1, L2, L3}
 use Rattle.state.specs.declared.EmptyLine.the-variants.{E1, E2}
 use Rattle.state.specs.declared.Call.{Call}
@@ -30,7 +27,7 @@ use Rattle.state.specs.declared.Thread.{Thread}
 use Rattle.steal.specs.Steal.{s5, s5Next}
 use Rattle.injector.specs.Step.{stepAt}
 use Rattle.invariant.specs.Ghost.{Maybe, none, some}
-use Rattle.invariant.specs.State.{State, lp, off, tk, T, H, np, nc, nxt}
+use Rattle.invariant.specs.State.{State, lp, off, tk, T, H, nc, nxt}
 use Rattle.invariant.specs.Shared.{Shared}
 use Rattle.invariant.specs.Lines.{CallOk}
 use Rattle.invariant.proofs.Facts.{clash, none-some, some-inj}
@@ -38,8 +35,8 @@ use Rattle.settle.specs.Views.{links, installs, leaves}
 use Rattle.settle.specs.Owed.{Owed}
 use Rattle.settle.specs.Early.{isEarly, atTail, atHead, blocked, pushRank, rank, installRank, leaveRank, linkRank, awaits, Rank, free, tail-waits, head-waits, link-waits}
 use Rattle.settle.proofs.OwedFrame.{Line}
-use Rattle.settle.proofs.Early.{Again, Past, Went, left, again, further}
-use Rattle.settle.proofs.EarlyRank.{Installing, at5, at6, installing, Leaving, on5, on6, on7, on8, leaving, Linking, in5, in6, in7, linking, Awaiting, waits, awaiting, tail-early, head-early, early-links, free-rank, thief-rank, one-linker}
+use Rattle.settle.proofs.Early.{Went, left, again, further}
+use Rattle.settle.proofs.EarlyRank.{Installing, at5, at6, installing, Leaving, on5, on6, on7, on8, leaving, Linking, in5, in6, in7, linking, Awaiting, waits, awaiting, tail-early, head-early, early-links, free-rank, thief-rank, not-both, link-above, one-linker}
 
 -- the rank of a call that does not need the tail does not look at it
 rank-same : (c : Call) (t u : ℕ) → (atTail c ≡ true → u ≡ t) → isEarly c ≡ true → rank u c ≡ rank t c
@@ -77,63 +74,64 @@ blocked-same q p c e f = go (atTail c) (atHead c) e f
     go false true a b = rw (b refl)
     go false false a b = refl
 
+-- j's call was early and is no longer
+abbrev pub Fewer : (ℕ → Call) → ℕ → (ℕ → Call) → Type 0
+Fewer calls j calls′ = (isEarly (calls j) ≡ true) × (isEarly (calls′ j) ≡ false)
+
+-- x has a lower rank
+pub record Lower (q′ : Queue) (calls′ : ℕ → Call) (x r : ℕ) : Type 0 where
+  pub value : ℕ
+  pub key : ℕ
+  pub rank : Rank q′ calls′ x value key
+  pub less : value < r
+
+-- what j's step makes of the rank of x
+pub data Next (calls : ℕ → Call) (j : ℕ) (q′ : Queue) (calls′ : ℕ → Call) (x r k : ℕ) : Type 0 where
+  fewer : Fewer calls j calls′ → Next calls j q′ calls′ x r k
+  lower : Lower q′ calls′ x r → Next calls j q′ calls′ x r k
+  same : Rank q′ calls′ x r k → (j ≡ k → ⊥) → Next calls j q′ calls′ x r k
+
 module _ (s : State) (calls : ℕ → Call) (j : ℕ) (t : Thread) (q′ : Queue) (calls′ : ℕ → Call)
     (shared : Shared s) (lines : (i : ℕ) → Line s i (calls i)) (owed : Owed s calls)
     (queue : q′ ≡ stepAt (s .queue) (s .pool) t (calls j) .stepped .queue)
     (own : calls′ j ≡ stepAt (s .queue) (s .pool) t (calls j) .stepped .thread .call)
     (others : (i : ℕ) → (i ≡ j → ⊥) → calls′ i ≡ calls i)
     (went : Went (s .queue) (calls j) q′ (calls′ j)) where
-
-  -- j's call was early and is no longer
-  abbrev pub Fewer : Type 0
-  Fewer = (isEarly (calls j) ≡ true) × (isEarly (calls′ j) ≡ false)
-
-  pub record Lower (x r : ℕ) : Type 0 where
-    pub value : ℕ
-    pub key : ℕ
-    pub rank : Rank q′ calls′ x value key
-    pub less : value < r
-
-  pub data Next (x r k : ℕ) : Type 0 where
-    fewer : Fewer → Next x r k
-    lower : Lower x r → Next x r k
-    same : Rank q′ calls′ x r k → (j ≡ k → ⊥) → Next x r k
-
   -- ---- what stays, unless an early call goes
 
-  tail-stays : (x : ℕ) → atTail (calls x) ≡ true → Fewer ⊎ (atTail (calls′ x) ≡ true)
+  tail-stays : (x : ℕ) → atTail (calls x) ≡ true → Fewer calls j calls′ ⊎ (atTail (calls′ x) ≡ true)
   tail-stays x e = go (ℕ-discrete x j)
     where
-      mine : Went (s .queue) (calls j) q′ (calls′ j) → atTail (calls j) ≡ true → Fewer ⊎ (atTail (calls′ j) ≡ true)
+      mine : Went (s .queue) (calls j) q′ (calls′ j) → atTail (calls j) ≡ true → Fewer calls j calls′ ⊎ (atTail (calls′ j) ≡ true)
       mine (left a b) f = inl (a, b)
       mine (again g) f = inr (g .tail ∙ f)
       mine (further p) f = clash (isEarly (calls j)) (tail-early (calls j) f) (p .late)
 
-      go : Dec (x ≡ j) → Fewer ⊎ (atTail (calls′ x) ≡ true)
+      go : Dec (x ≡ j) → Fewer calls j calls′ ⊎ (atTail (calls′ x) ≡ true)
       go (yes d) = rw d (mine went (rw d at e))
       go (no n) = inr (ap atTail (others x n) ∙ e)
 
-  head-stays : (x : ℕ) → atHead (calls x) ≡ true → Fewer ⊎ (atHead (calls′ x) ≡ true)
+  head-stays : (x : ℕ) → atHead (calls x) ≡ true → Fewer calls j calls′ ⊎ (atHead (calls′ x) ≡ true)
   head-stays x e = go (ℕ-discrete x j)
     where
-      mine : Went (s .queue) (calls j) q′ (calls′ j) → atHead (calls j) ≡ true → Fewer ⊎ (atHead (calls′ j) ≡ true)
+      mine : Went (s .queue) (calls j) q′ (calls′ j) → atHead (calls j) ≡ true → Fewer calls j calls′ ⊎ (atHead (calls′ j) ≡ true)
       mine (left a b) f = inl (a, b)
       mine (again g) f = inr (g .head ∙ f)
       mine (further p) f = clash (isEarly (calls j)) (head-early (calls j) f) (p .late)
 
-      go : Dec (x ≡ j) → Fewer ⊎ (atHead (calls′ x) ≡ true)
+      go : Dec (x ≡ j) → Fewer calls j calls′ ⊎ (atHead (calls′ x) ≡ true)
       go (yes d) = rw d (mine went (rw d at e))
       go (no n) = inr (ap atHead (others x n) ∙ e)
 
   -- nobody new links a block
-  unlinked-stays : (n : ℕ) → ((i : ℕ) → links (calls i) ≡ some n → ⊥) → Fewer ⊎ ((i : ℕ) → links (calls′ i) ≡ some n → ⊥)
+  unlinked-stays : (n : ℕ) → ((i : ℕ) → links (calls i) ≡ some n → ⊥) → Fewer calls j calls′ ⊎ ((i : ℕ) → links (calls′ i) ≡ some n → ⊥)
   unlinked-stays n f = by went
     where
       each : (links (calls′ j) ≡ some n → ⊥) → (i : ℕ) → Dec (i ≡ j) → links (calls′ i) ≡ some n → ⊥
       each g i (yes d) e = g (rw d at e)
       each g i (no o) e = f i (sym (ap links (others i o)) ∙ e)
 
-      by : Went (s .queue) (calls j) q′ (calls′ j) → Fewer ⊎ ((i : ℕ) → links (calls′ i) ≡ some n → ⊥)
+      by : Went (s .queue) (calls j) q′ (calls′ j) → Fewer calls j calls′ ⊎ ((i : ℕ) → links (calls′ i) ≡ some n → ⊥)
       by (left a b) = inl (a, b)
       by (again g) = inr (λ i. each (λ e. early-links n (calls′ j) (g .still) e) i (ℕ-discrete i j))
       by (further p) = inr (λ i. each (λ e. f j (p .links n e)) i (ℕ-discrete i j))
@@ -142,14 +140,14 @@ module _ (s : State) (calls : ℕ → Call) (j : ℕ) (t : Thread) (q′ : Queue
   key-rank : (x k : ℕ) (of : Call → ℕ) → (k ≡ j → ⊥) → Rank q′ calls′ x (of (calls′ k)) k → Rank q′ calls′ x (of (calls k)) k
   key-rank x k of n r = subst (λ (c : Call). Rank q′ calls′ x (of c) k) (others k n) r
 
-  lower-to : (x r v k : ℕ) → v < r → Rank q′ calls′ x v k → Next x r k
+  lower-to : (x r v k : ℕ) → v < r → Rank q′ calls′ x v k → Next calls j q′ calls′ x r k
   lower-to x r v k l p = lower (record { value = v; key = k; rank = p; less = l })
 
   -- ---- x is not blocked
 
   module _ (x : ℕ) (e : isEarly (calls x) ≡ true) (b : blocked (s .queue) (calls x) ≡ false) where
     free-stays : (x ≡ j → ⊥) → (atTail (calls x) ≡ true → q′ .tail .raw ≡ T s) → (atHead (calls x) ≡ true → q′ .head .raw ≡ H s)
-        → Next x (rank (T s) (calls x)) x
+        → Next calls j q′ calls′ x (rank (T s) (calls x)) x
     free-stays n f h =
         same
         (subst (λ (v : ℕ). Rank q′ calls′ x v x)
@@ -157,7 +155,7 @@ module _ (s : State) (calls : ℕ → Call) (j : ℕ) (t : Thread) (q′ : Queue
         (free (ap isEarly (others x n) ∙ e) (ap (blocked q′) (others x n) ∙ blocked-same (s .queue) q′ (calls x) f h ∙ b)))
         (λ d. n (sym d))
 
-    free-other : (x ≡ j → ⊥) → Went (s .queue) (calls j) q′ (calls′ j) → Next x (rank (T s) (calls x)) x
+    free-other : (x ≡ j → ⊥) → Went (s .queue) (calls j) q′ (calls′ j) → Next calls j q′ calls′ x (rank (T s) (calls x)) x
     free-other n (left a f) = fewer (a, f)
     free-other n (again g) =
         free-stays n (λ f. ap (λ (q : Queue). q .tail .raw) (g .queue)) (λ f. ap (λ (q : Queue). q .head .raw) (g .queue))
@@ -165,7 +163,7 @@ module _ (s : State) (calls : ℕ → Call) (j : ℕ) (t : Thread) (q′ : Queue
         free-stays n (λ f. p .tail (free-tail (s .queue) (calls x) b f)) (λ f. p .head (free-head (s .queue) (calls x) b f))
 
   free-own : (x : ℕ) → x ≡ j → isEarly (calls x) ≡ true → blocked (s .queue) (calls x) ≡ false → Went (s .queue) (calls x) q′ (calls′ x)
-      → Fewer ⊎ Lower x (rank (T s) (calls x))
+      → Fewer calls j calls′ ⊎ Lower q′ calls′ x (rank (T s) (calls x))
   free-own x d e b (left a f) = inl (rw d at a, rw d at f)
   free-own x d e b (again g) =
       let same-tail : q′ .tail .raw ≡ T s = ap (λ (q : Queue). q .tail .raw) (g .queue) in
@@ -181,7 +179,7 @@ module _ (s : State) (calls : ℕ → Call) (j : ℕ) (t : Thread) (q′ : Queue
       unblocked = rw (g .tail, g .head) b
   free-own x d e b (further p) = clash (isEarly (calls x)) e (p .late)
 
-  free-next : (x : ℕ) → isEarly (calls x) ≡ true → blocked (s .queue) (calls x) ≡ false → Dec (x ≡ j) → Next x (rank (T s) (calls x)) x
+  free-next : (x : ℕ) → isEarly (calls x) ≡ true → blocked (s .queue) (calls x) ≡ false → Dec (x ≡ j) → Next calls j q′ calls′ x (rank (T s) (calls x)) x
   free-next x e b (yes d) =
       ⊎-elim (λ f. fewer f) (λ l. lower l)
       (free-own x d e b (subst (λ (i : ℕ). Went (s .queue) (calls i) q′ (calls′ i)) (sym d) went))
@@ -189,7 +187,7 @@ module _ (s : State) (calls : ℕ → Call) (j : ℕ) (t : Thread) (q′ : Queue
 
   -- ---- the tail waits
 
-  open-tail : (x k : ℕ) → atTail (calls′ x) ≡ true → (off (q′ .tail .raw) ≡ 63 → ⊥) → Next x 7 k
+  open-tail : (x k : ℕ) → atTail (calls′ x) ≡ true → (off (q′ .tail .raw) ≡ 63 → ⊥) → Next calls j q′ calls′ x 7 k
   open-tail x k e n =
       lower
       (record {
@@ -199,7 +197,7 @@ module _ (s : State) (calls : ℕ → Call) (j : ℕ) (t : Thread) (q′ : Queue
         less = let p = free-rank (q′ .tail .raw) (calls′ x) (tail-early (calls′ x) e) in omega arith;
       })
 
-  tail-key : (x : ℕ) → atTail (calls′ x) ≡ true → (c : Call) → calls j ≡ c → Installing c → Next x (installRank c) j
+  tail-key : (x : ℕ) → atTail (calls′ x) ≡ true → (c : Call) → calls j ≡ c → Installing c → Next calls j q′ calls′ x (installRank c) j
   tail-key x e c at (at5 v u b y) =
       let next-call : calls′ j ≡ Push (P6 v u b y) = rw at at own in
       lower-to x 8 7 j (omega arith)
@@ -212,7 +210,7 @@ module _ (s : State) (calls : ℕ → Call) (j : ℕ) (t : Thread) (q′ : Queue
       line : CallOk s j (lines j .count) (lines j .taken) (Push (P6 v u b y))
       line = rw at at (lines j .ok)
 
-  tail-next : (x k : ℕ) → atTail (calls x) ≡ true → installs (calls k) ≡ true → Dec (k ≡ j) → Next x (installRank (calls k)) k
+  tail-next : (x k : ℕ) → atTail (calls x) ≡ true → installs (calls k) ≡ true → Dec (k ≡ j) → Next calls j q′ calls′ x (installRank (calls k)) k
   tail-next x k e f (yes d) =
       rw d (⊎-elim (λ g. fewer g) (λ g. tail-key x g (calls j) refl (installing (calls j) (rw d at f))) (tail-stays x e))
   tail-next x k e f (no n) =
@@ -222,7 +220,7 @@ module _ (s : State) (calls : ℕ → Call) (j : ℕ) (t : Thread) (q′ : Queue
 
   -- ---- the head waits
 
-  open-head : (x k : ℕ) → atHead (calls′ x) ≡ true → (off (q′ .head .raw) ≡ 63 → ⊥) → Next x 6 k
+  open-head : (x k : ℕ) → atHead (calls′ x) ≡ true → (off (q′ .head .raw) ≡ 63 → ⊥) → Next calls j q′ calls′ x 6 k
   open-head x k e n =
       lower
       (record {
@@ -234,7 +232,7 @@ module _ (s : State) (calls : ℕ → Call) (j : ℕ) (t : Thread) (q′ : Queue
 
   -- at S6 to S8 the thief awaits nothing
   leave-to : (x r : ℕ) (c : Call) → atHead (calls′ x) ≡ true → calls′ j ≡ c → leaves c ≡ true → ((n : ℕ) → awaits c ≡ some n → ⊥)
-      → leaveRank c < r → Next x r j
+      → leaveRank c < r → Next calls j q′ calls′ x r j
   leave-to x r c e at f g l =
       lower-to x r (leaveRank c) j l
       (subst (λ (d : Call). Rank q′ calls′ x (leaveRank d) j) at
@@ -254,16 +252,16 @@ module _ (s : State) (calls : ℕ → Call) (j : ℕ) (t : Thread) (q′ : Queue
       line = rw at at (lines j .ok)
 
   s5-next : (x : ℕ) (k : Kind) (c : Claim) → atHead (calls′ x) ≡ true → calls j ≡ Steal (S5 k c)
-      → ((i : ℕ) → links (calls i) ≡ some (63 * lp (c .head .raw) + 62) → ⊥) → Next x 9 j
+      → ((i : ℕ) → links (calls i) ≡ some (63 * lp (c .head .raw) + 62) → ⊥) → Next calls j q′ calls′ x 9 j
   unfolding s5
   s5-next x k c e at f = go (next (s .pool) (c .block)) refl (rw at at own)
     where
-      go : (n : MaybeBlock) → next (s .pool) (c .block) ≡ n → calls′ j ≡ s5Next (s .queue) k c n .made .call → Next x 9 j
+      go : (n : MaybeBlock) → next (s .pool) (c .block) ≡ n → calls′ j ≡ s5Next (s .queue) k c n .made .call → Next calls j q′ calls′ x 9 j
       go Nothing g h = absurd (linked k c at f g)
       go (Block y) g h = leave-to x 9 (Steal (S6 k c y)) e h refl (λ n z. none-some n z) (omega arith)
 
   head-key : (x : ℕ) → atHead (calls′ x) ≡ true → (c : Call) → calls j ≡ c
-      → ((n : ℕ) → awaits c ≡ some n → (i : ℕ) → links (calls i) ≡ some n → ⊥) → Leaving c → Next x (leaveRank c) j
+      → ((n : ℕ) → awaits c ≡ some n → (i : ℕ) → links (calls i) ≡ some n → ⊥) → Leaving c → Next calls j q′ calls′ x (leaveRank c) j
   head-key x e c at f (on5 k d) = s5-next x k d e at (f (63 * lp (d .head .raw) + 62) refl)
   head-key x e c at f (on6 k d y) = leave-to x 8 (Steal (S7 k d y _)) e (rw at at own) refl (λ n z. none-some n z) (omega arith)
   head-key x e c at f (on7 k d y more) = leave-to x 7 (Steal (S8 k d more)) e (rw at at own) refl (λ n z. none-some n z) (omega arith)
@@ -277,21 +275,21 @@ module _ (s : State) (calls : ℕ → Call) (j : ℕ) (t : Thread) (q′ : Queue
       line = rw at at (lines j .ok)
 
   head-next : (x k : ℕ) → atHead (calls x) ≡ true → leaves (calls k) ≡ true
-      → ((n : ℕ) → awaits (calls k) ≡ some n → (i : ℕ) → links (calls i) ≡ some n → ⊥) → Dec (k ≡ j) → Next x (leaveRank (calls k)) k
+      → ((n : ℕ) → awaits (calls k) ≡ some n → (i : ℕ) → links (calls i) ≡ some n → ⊥) → Dec (k ≡ j) → Next calls j q′ calls′ x (leaveRank (calls k)) k
   head-next x k e f g (yes d) =
       rw d (⊎-elim (λ h. fewer h) (λ h. head-key x h (calls j) refl (rw d at g) (leaving (calls j) (rw d at f))) (head-stays x e))
   head-next x k e f g (no o) =
       ⊎-elim (λ h. fewer h) (λ h. by h (awaits (calls k)) refl) (head-stays x e)
     where
       stays : atHead (calls′ x) ≡ true → ((n : ℕ) → awaits (calls k) ≡ some n → (i : ℕ) → links (calls′ i) ≡ some n → ⊥)
-          → Next x (leaveRank (calls k)) k
+          → Next calls j q′ calls′ x (leaveRank (calls k)) k
       stays h u =
           same
           (key-rank x k leaveRank o
           (head-waits k h (ap leaves (others k o) ∙ f) (λ n z. u n (sym (ap awaits (others k o)) ∙ z))))
           (λ z. o (sym z))
 
-      by : atHead (calls′ x) ≡ true → (a : Maybe) → awaits (calls k) ≡ a → Next x (leaveRank (calls k)) k
+      by : atHead (calls′ x) ≡ true → (a : Maybe) → awaits (calls k) ≡ a → Next calls j q′ calls′ x (leaveRank (calls k)) k
       by h none z = stays h (λ n y i l. none-some n (sym z ∙ y))
       by h (some n) z =
           ⊎-elim (λ y. fewer y)
@@ -308,15 +306,15 @@ module _ (s : State) (calls : ℕ → Call) (j : ℕ) (t : Thread) (q′ : Queue
     nobody l g i (no o) z =
         o (sym (one-linker s calls lines i n (sym (ap links (others i o)) ∙ z)) ∙ one-linker s calls lines j n l)
 
-    link-step : (v r : ℕ) (c : Call) → calls′ j ≡ c → links c ≡ some n → linkRank c < r → awaits (calls′ m) ≡ some n → Next x r j
-    link-step v r c at l less a =
+    link-step : (r : ℕ) (c : Call) → calls′ j ≡ c → links c ≡ some n → linkRank c < r → awaits (calls′ m) ≡ some n → Next calls j q′ calls′ x r j
+    link-step r c at l less a =
         lower-to x r (linkRank c) j less
         (subst (λ (d : Call). Rank q′ calls′ x (linkRank d) j) at (link-waits j m n e a (ap links at ∙ l)))
 
-    moves-on : awaits (calls′ m) ≡ some n → ((i : ℕ) → links (calls′ i) ≡ some n → ⊥) → Next x 10 j
+    moves-on : awaits (calls′ m) ≡ some n → ((i : ℕ) → links (calls′ i) ≡ some n → ⊥) → Next calls j q′ calls′ x 10 j
     moves-on a f = go (calls′ m) refl (awaiting n (calls′ m) a)
       where
-        go : (c : Call) → calls′ m ≡ c → Awaiting n c → Next x 10 j
+        go : (c : Call) → calls′ m ≡ c → Awaiting n c → Next calls j q′ calls′ x 10 j
         go c at (waits k d z) =
             lower
             (record {
@@ -328,27 +326,12 @@ module _ (s : State) (calls : ℕ → Call) (j : ℕ) (t : Thread) (q′ : Queue
               less = omega arith;
             })
 
-    link-key : (c : Call) → calls j ≡ c → awaits (calls′ m) ≡ some n → links (calls j) ≡ some n → Linking n c → Next x (linkRank c) j
-    link-key c at a l (in5 v u b y d) = link-step v 12 (Push (P6 v u b y)) (rw at at own) (ap some d) (omega arith) a
-    link-key c at a l (in6 v u b y d) = link-step v 11 (Push (P7 v u b y)) (rw at at own) (ap some d) (omega arith) a
+    link-key : (c : Call) → calls j ≡ c → awaits (calls′ m) ≡ some n → links (calls j) ≡ some n → Linking n c → Next calls j q′ calls′ x (linkRank c) j
+    link-key c at a l (in5 v u b y d) = link-step 12 (Push (P6 v u b y)) (rw at at own) (ap some d) (omega arith) a
+    link-key c at a l (in6 v u b y d) = link-step 11 (Push (P7 v u b y)) (rw at at own) (ap some d) (omega arith) a
     link-key c at a l (in7 v u b y d) =
         let next-call : calls′ j ≡ Push (P8 v u b Nothing) = rw at at own in
         moves-on a (λ i. nobody l (λ z. none-some n (sym (ap links next-call) ∙ z)) i (ℕ-discrete i j))
-
-  -- who awaits a link does not link
-  not-both : (c : Call) (n l : ℕ) → awaits c ≡ some n → links c ≡ some l → ⊥
-  not-both c n l a b = go c (awaiting n c a) b
-    where
-      go : (d : Call) → Awaiting n d → links d ≡ some l → ⊥
-      go d (waits k f z) g = none-some l g
-
-  link-above : (c : Call) (n : ℕ) → links c ≡ some n → 8 < linkRank c
-  link-above c n l = go c (linking n c l)
-    where
-      go : (d : Call) → Linking n d → 8 < linkRank d
-      go d (in5 v t b y z) = omega arith
-      go d (in6 v t b y z) = omega arith
-      go d (in7 v t b y z) = omega arith
 
   -- the thief itself looks again: it is still at S5, or has found the link
   abbrev Looks : ℕ → ℕ → Type 0
@@ -368,7 +351,7 @@ module _ (s : State) (calls : ℕ → Call) (j : ℕ) (t : Thread) (q′ : Queue
       by c at (waits k f z) = go k f z (next (s .pool) (f .block)) (rw at at own)
 
   link-next : (x k m n : ℕ) → atHead (calls x) ≡ true → awaits (calls m) ≡ some n → links (calls k) ≡ some n → Dec (k ≡ j)
-      → Next x (linkRank (calls k)) k
+      → Next calls j q′ calls′ x (linkRank (calls k)) k
   link-next x k m n e a l (yes d) =
       let l′ : links (calls j) ≡ some n = rw d at l in
       let o : m ≡ j → ⊥ = λ f. not-both (calls j) n n (rw f at a) l′ in
@@ -377,11 +360,11 @@ module _ (s : State) (calls : ℕ → Call) (j : ℕ) (t : Thread) (q′ : Queue
       (head-stays x e))
   link-next x k m n e a l (no o) = ⊎-elim (λ h. fewer h) (λ h. at h (ℕ-discrete m j)) (head-stays x e)
     where
-      waits-on : atHead (calls′ x) ≡ true → awaits (calls′ m) ≡ some n → Next x (linkRank (calls k)) k
+      waits-on : atHead (calls′ x) ≡ true → awaits (calls′ m) ≡ some n → Next calls j q′ calls′ x (linkRank (calls k)) k
       waits-on h b = same (key-rank x k linkRank o (link-waits k m n h b (ap links (others k o) ∙ l))) (λ z. o (sym z))
 
       found : atHead (calls′ x) ≡ true → (leaves (calls′ m) ≡ true) × (leaveRank (calls′ m) ≡ 8) × ((i : ℕ) → awaits (calls′ m) ≡ some i → ⊥)
-          → Next x (linkRank (calls k)) k
+          → Next calls j q′ calls′ x (linkRank (calls k)) k
       found h p =
           lower
           (record {
@@ -391,11 +374,11 @@ module _ (s : State) (calls : ℕ → Call) (j : ℕ) (t : Thread) (q′ : Queue
             less = omega (arith, p .1, link-above (calls k) n l);
           })
 
-      at : atHead (calls′ x) ≡ true → Dec (m ≡ j) → Next x (linkRank (calls k)) k
+      at : atHead (calls′ x) ≡ true → Dec (m ≡ j) → Next calls j q′ calls′ x (linkRank (calls k)) k
       at h (yes d) = ⊎-elim (waits-on h) (found h) (rw d (looks n (rw d at a)))
       at h (no f) = waits-on h (ap awaits (others m f) ∙ a)
 
-  pub early-step : (x r k : ℕ) → Rank (s .queue) calls x r k → Next x r k
+  pub early-step : (x r k : ℕ) → Rank (s .queue) calls x r k → Next calls j q′ calls′ x r k
   early-step x r k (free e b) = free-next x e b (ℕ-discrete x j)
   early-step x r k (tail-waits i e f) = tail-next x i e f (ℕ-discrete i j)
   early-step x r k (head-waits i e f g) = head-next x i e f g (ℕ-discrete i j)

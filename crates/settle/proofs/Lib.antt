@@ -19,5 +19,9 @@ pub mod OwedStart
 pub mod OwedStealLines
 pub mod OwedTake
 pub mod OwedWalk
+pub mod Phase1
 pub mod Phases23
+pub mod RoundLemma
+pub mod Settle
+pub mod Tallies
 pub mod Whole

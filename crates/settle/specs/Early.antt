@@ -8,9 +8,7 @@ use Rattle.state.specs.declared.PushLine.{PushLine}
 use Rattle.state.specs.declared.PushLine.the-variants.{P1, P2, P3, P4, P5, P6, P7, P8, P9, P10}
 use Rattle.state.specs.declared.StealLine.{StealLine}
 use Rattle.state.specs.declared.StealLine.the-variants.{S1, S2, S3, S4, S5, S6, S7, S8, S9, S10, S11, S12, S13, S14}
-use Rattle.state.specs.declared.LengthLine.{LengthLine}
 use Rattle.state.specs.declared.LengthLine.the-variants.{L1, L2, L3}
-use Rattle.state.specs.declared.EmptyLine.{EmptyLine}
 use Rattle.state.specs.declared.EmptyLine.the-variants.{E1, E2}
 use Rattle.state.specs.declared.Call.{Call}
 use Rattle.state.specs.declared.Call.the-variants.{Idle, Push, Steal, Length, Empty}

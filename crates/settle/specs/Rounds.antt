@@ -1,15 +1,19 @@
--- Rounds of steps with no call begun, and what holds when every call has ended.
-use Prim.Native.Nat.{ℕ, zero, suc, _+_, _*_, _-_, _≤_, _<_}
+-- Rounds of steps with no call begun, what holds when every call has ended, and the theorem of demand 3, second half.
+use Prim.Native.Nat.{ℕ, zero, suc, _+_, _*_, _-_, _≤_}
 use mathlib.Core.Path.{_≡_}
 use mathlib.Core.Bool.{Bool, true, false, not, cond}
 use mathlib.Core.List.{List, [], _∷_}
 use lib.ListN.{length}
 use lib.Dec.{eqb}
-use Rattle.index.specs.Position.{position, lap, ticket}
+use Rattle.index.specs.Position.{position, lap}
 use Rattle.index.specs.Length.{len}
 use Rattle.memory.specs.Layout.{isFree}
+use Rattle.ring.specs.declared.Flavor.{Flavor}
+use Rattle.state.specs.List.{countsGood}
 use Rattle.injector.specs.Step.{isIdle}
-use Rattle.history.specs.Board.{Board, Ask, steps, threadAt, asked}
+use Rattle.history.specs.Board.{Board, Ask, steps, start, threadAt, asked}
+use Rattle.history.specs.Log.{Note, pushes, claims, hands, ends}
+use Rattle.history.specs.History.{board, notes}
 
 -- whether thread n has a call open
 abbrev pub isOpenAt : Board → ℕ → Bool
@@ -52,3 +56,47 @@ pub record Settled (w : Board) (pushed claimed : ℕ) : Type 0 where
   pub ended : (n : ℕ) → isOpenAt w n ≡ false
   pub length : len (position (w .queue .tail .raw)) (position (w .queue .head .raw)) ≡ pushed - claimed
   pub blocks : used (w .pool) (w .queue .blocks) ≡ lap (position (w .queue .tail .raw)) - lap (position (w .queue .head .raw)) + 1
+
+-- the history with the rounds' steps, the last ask first
+abbrev pub withRound : List ℕ → List Ask → List Ask
+withRound [] asks = asks
+withRound (n ∷ order) asks = withRound order (steps n ∷ asks)
+
+abbrev pub withRounds : List (List ℕ) → List Ask → List Ask
+withRounds [] asks = asks
+withRounds (order ∷ rounds) asks = withRounds rounds (withRound order asks)
+
+-- the tickets pushed, and the tickets claimed, as the observer noted them
+abbrev pub pushedIn : List Note → ℕ
+pushedIn [] = 0
+pushedIn (pushes p ∷ l) = suc (pushedIn l)
+pushedIn (claims c ∷ l) = pushedIn l
+pushedIn (hands h ∷ l) = pushedIn l
+pushedIn (ends e ∷ l) = pushedIn l
+
+abbrev pub claimedIn : List Note → ℕ
+claimedIn [] = 0
+claimedIn (pushes p ∷ l) = claimedIn l
+claimedIn (claims c ∷ l) = c .count + claimedIn l
+claimedIn (hands h ∷ l) = claimedIn l
+claimedIn (ends e ∷ l) = claimedIn l
+
+-- The theorem: from any state of any history, if no call is begun and each round gives every open call one step, in any
+-- order within each round, then after enough rounds the board is settled.
+abbrev pub Settles : Type 0
+Settles =
+    (flavors : List Flavor) (blocks ceiling : ℕ)
+    → countsGood (length flavors) blocks ceiling ≡ true
+    → (asks : List Ask) (rounds : List (List ℕ))
+    → Rounds (board (start flavors blocks ceiling) asks) rounds
+    → enough (length flavors) ≤ length rounds
+    → Settled (after (board (start flavors blocks ceiling) asks) rounds)
+    (pushedIn (notes (start flavors blocks ceiling) (withRounds rounds asks)))
+    (claimedIn (notes (start flavors blocks ceiling) (withRounds rounds asks)))
+
+-- within 1,000 rounds for 8 threads, and within 4,000 for 32
+abbrev pub EnoughFor8 : Type 0
+EnoughFor8 = enough 8 ≤ 1000
+
+abbrev pub EnoughFor32 : Type 0
+EnoughFor32 = enough 32 ≤ 4000
