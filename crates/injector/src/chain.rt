@@ -7,7 +7,8 @@ ghost use mathlib.Core.Path.{_≡_};
 ghost use Prim.Native.Nat.{_+_, _<_, _^_};
 ghost use Rattle.injector.specs.Audit.{chase, auditEntry};
 
-// `met` blocks were met, `at` the last of them; the links left fall with each call.
+// `met` blocks were met, `at` the last of them; the links left fall with each call. What is asked is that the
+// count fits: both together are the pool's blocks.
 fn chase(pool: &[u64], at: u64, tail: u64, met: u64, left: u64) -> Audited
     requires { ⌜ met + left < 2 ^ 64 ⌝ }
     ensures { λ r. ⌜ r ≡ chase left (now (pool .entry)) at tail met ⌝ }

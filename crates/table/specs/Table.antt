@@ -1,0 +1,63 @@
+-- The step entry over a lent table of thread records, with document 01's refusals in their order. A refused entry changes nothing.
+use Prim.Native.Nat.{ℕ, _+_}
+use mathlib.Core.Bool.{Bool, true, _&&_, cond}
+use mathlib.Core.List.{List, [], _∷_}
+use lib.Dec.{ltb, eqb}
+use lib.ListN.{length, getD, set}
+use Rattle.memory.specs.Pool.{tableLen}
+use Rattle.ring.specs.declared.Flavor.the-variants.{Fifo}
+use Rattle.state.specs.List.{setupGood, sharedGood, nextsGood, recordGood}
+use Rattle.state.specs.declared.Queue.{Queue}
+use Rattle.state.specs.declared.Thread.{Thread}
+use Rattle.state.specs.declared.Answer.the-variants.{Refused}
+use Rattle.state.specs.declared.Refusal.{Refusal}
+use Rattle.state.specs.declared.Refusal.the-variants.{BadSetup, BadState, NoThread, Idle}
+use Rattle.injector.specs.declared.Ran.{Ran}
+use Rattle.injector.specs.Step.{After, once, stepOf, isIdle}
+use Rattle.injector.specs.Entry.{idleThread}
+use Rattle.table.specs.declared.TableStep.{TableStep}
+
+-- 1: the counts, and both lent parts as long as published
+unfoldable pub sizesGood : Queue → ℕ → ℕ → Bool
+sizesGood q records words = setupGood q words && eqb records (tableLen (q .threads) (q .blocks))
+
+-- 2: the list over every record, the one that is stepped and all others
+unfoldable pub allGood : Queue → List Thread → Bool
+allGood q [] = true
+allGood q (t ∷ ts) = recordGood q t && allGood q ts
+
+-- the record with number n; past the table's end, where nobody asks, a thread as at setup
+unfoldable pub blank : Thread
+blank = idleThread Fifo
+
+abbrev pub recordAt : List Thread → ℕ → Thread
+recordAt ts n = getD ts n blank
+
+-- what the entry gives back, and both lent parts at its exit
+pub record TableAfter : Type 0 where
+  pub stepped : TableStep
+  pub table : List Thread
+  pub pool : List ℕ
+
+abbrev pub refusal : Queue → Refusal → TableStep
+refusal q r = record { queue = q; answer = Refused r; steps = 0 }
+
+abbrev pub refusedTable : Queue → List Thread → List ℕ → Refusal → TableAfter
+refusedTable q ts m r = record { stepped = refusal q r; table = ts; pool = m }
+
+-- of what stepping one record gives back, the record goes to its place in the table
+abbrev pub given : Ran → TableStep
+given r = record { queue = r .queue; answer = r .answer; steps = r .steps }
+
+abbrev pub stored : List Thread → ℕ → After → TableAfter
+stored ts n a = record { stepped = given (a .ran); table = set ts n (a .ran .thread); pool = a .pool }
+
+unfoldable pub tableEntry : Queue → List Thread → List ℕ → ℕ → TableAfter
+tableEntry q ts m n =
+    cond (sizesGood q (length ts) (length m))
+    (cond (sharedGood q && nextsGood m (q .blocks) (q .blocks) && allGood q ts)
+    (cond (ltb n (q .threads))
+    (cond (isIdle (recordAt ts n .call)) (refusedTable q ts m Idle) (stored ts n (once m (stepOf q m (recordAt ts n)))))
+    (refusedTable q ts m NoThread))
+    (refusedTable q ts m BadState))
+    (refusedTable q ts m BadSetup)
