@@ -1,0 +1,4 @@
+pub mod Ascii
+pub mod Number
+pub mod Line
+pub mod Print
