@@ -1,0 +1,3 @@
+pub mod Command
+pub mod Replay
+pub mod Feed
