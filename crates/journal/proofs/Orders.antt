@@ -23,68 +23,61 @@ use Rattle.journal.specs.Feed.{isQueue, laterOf, openingOf}
 
 module _ (r : Replay) (m : List ℕ) where
   -- a command of a thread
-  abbrev orderedBy : Command → Told
+  abbrev pub orderedBy : Command → Told
   orderedBy c = ordered r m (threadNumber c) (orderOf (r .queue) (poolOf r m) (threadOf r (threadNumber c)) c)
 
-  by-command : (c : Command) → isQueue c ≡ false → laterLine r m (Good c) ≡ orderedBy c
-  by-command (Command.Queue a b d) e = cc
-  by-command (Command.Push n token) e = refl
-  by-command (Command.Steal n) e = refl
-  by-command (Command.Batch n limit) e = refl
-  by-command (Command.Take n limit) e = refl
-  by-command (Command.Len n) e = refl
-  by-command (Command.Empty n) e = refl
-  by-command (Command.Pop n) e = refl
-  by-command (Command.Step n) e = refl
-  by-command (Command.Run n budget) e = refl
+  -- what holds of a malformed line and of each command of a thread holds of every line after line 1
+  pub later-cases : (P : Parsed → Told → Type 0) → P Bad (bad r m) → ((x y z : ℕ) → P (Good (Command.Queue x y z)) (bad r m))
+      → ((c : Command) → isQueue c ≡ false → P (Good c) (orderedBy c)) → (p : Parsed) → P p (laterLine r m p)
+  later-cases P b q o Bad = b
+  later-cases P b q o (Good (Command.Queue x y z)) = q x y z
+  later-cases P b q o (Good (Command.Push n token)) = o (Command.Push n token) refl
+  later-cases P b q o (Good (Command.Steal n)) = o (Command.Steal n) refl
+  later-cases P b q o (Good (Command.Batch n limit)) = o (Command.Batch n limit) refl
+  later-cases P b q o (Good (Command.Take n limit)) = o (Command.Take n limit) refl
+  later-cases P b q o (Good (Command.Len n)) = o (Command.Len n) refl
+  later-cases P b q o (Good (Command.Empty n)) = o (Command.Empty n) refl
+  later-cases P b q o (Good (Command.Pop n)) = o (Command.Pop n) refl
+  later-cases P b q o (Good (Command.Step n)) = o (Command.Step n) refl
+  later-cases P b q o (Good (Command.Run n budget)) = o (Command.Run n budget) refl
+
+  -- and of line 1, what holds of a malformed line, of a queue line and of any other
+  pub first-cases : (P : Parsed → Told → Type 0) → P Bad (bad r m) → ((x y z : ℕ) → P (Good (Command.Queue x y z)) (queueLine r m x y z))
+      → ((c : Command) → openingOf (Good c) ≡ Opening.Bad → P (Good c) (bad r m)) → (p : Parsed) → P p (firstLine r m p)
+  first-cases P b q o Bad = b
+  first-cases P b q o (Good (Command.Queue x y z)) = q x y z
+  first-cases P b q o (Good (Command.Push n token)) = o (Command.Push n token) refl
+  first-cases P b q o (Good (Command.Steal n)) = o (Command.Steal n) refl
+  first-cases P b q o (Good (Command.Batch n limit)) = o (Command.Batch n limit) refl
+  first-cases P b q o (Good (Command.Take n limit)) = o (Command.Take n limit) refl
+  first-cases P b q o (Good (Command.Len n)) = o (Command.Len n) refl
+  first-cases P b q o (Good (Command.Empty n)) = o (Command.Empty n) refl
+  first-cases P b q o (Good (Command.Pop n)) = o (Command.Pop n) refl
+  first-cases P b q o (Good (Command.Step n)) = o (Command.Step n) refl
+  first-cases P b q o (Good (Command.Run n budget)) = o (Command.Run n budget) refl
 
   pub later-good : (p : Parsed) {c : Command} → laterOf p ≡ Good c → laterLine r m p ≡ orderedBy c
-  later-good Bad e = cc
-  later-good (Good d) {c} e = go (isQueue d) refl e
-    where
-      go : (b : Bool) → isQueue d ≡ b → cond b Bad (Good d) ≡ Good c → laterLine r m (Good d) ≡ orderedBy c
-      go true q h = cc
-      go false q h = let same : d ≡ c = cc in by-command d q ∙ ap orderedBy same
+  later-good p {c} =
+      later-cases (λ p t. laterOf p ≡ Good c → t ≡ orderedBy c) (λ e. cc) (λ x y z e. cc)
+      (λ d q e. let same : d ≡ c = (let g : Good d ≡ Good c = rw q at e in cc) in ap orderedBy same)
+      p
 
   pub later-bad : (p : Parsed) → laterOf p ≡ Bad → laterLine r m p ≡ bad r m
-  later-bad Bad e = refl
-  later-bad (Good (Command.Queue a b d)) e = refl
-  later-bad (Good (Command.Push n token)) e = cc
-  later-bad (Good (Command.Steal n)) e = cc
-  later-bad (Good (Command.Batch n limit)) e = cc
-  later-bad (Good (Command.Take n limit)) e = cc
-  later-bad (Good (Command.Len n)) e = cc
-  later-bad (Good (Command.Empty n)) e = cc
-  later-bad (Good (Command.Pop n)) e = cc
-  later-bad (Good (Command.Step n)) e = cc
-  later-bad (Good (Command.Run n budget)) e = cc
+  later-bad p =
+      later-cases (λ p t. laterOf p ≡ Bad → t ≡ bad r m) (λ e. refl) (λ x y z e. refl)
+      (λ d q e. let g : Good d ≡ Bad = rw q at e in cc)
+      p
 
-  pub opening-good : (p : Parsed) {a b d : ℕ} → openingOf p ≡ Opening.Queue a b d → firstLine r m p ≡ queueLine r m a b d
-  opening-good Bad e = cc
-  opening-good (Good (Command.Queue x y z)) {a} {b} {d} e =
-      let i : x ≡ a = cc in let j : y ≡ b = cc in let k : z ≡ d = cc in rw (i, j, k)
-  opening-good (Good (Command.Push n token)) e = cc
-  opening-good (Good (Command.Steal n)) e = cc
-  opening-good (Good (Command.Batch n limit)) e = cc
-  opening-good (Good (Command.Take n limit)) e = cc
-  opening-good (Good (Command.Len n)) e = cc
-  opening-good (Good (Command.Empty n)) e = cc
-  opening-good (Good (Command.Pop n)) e = cc
-  opening-good (Good (Command.Step n)) e = cc
-  opening-good (Good (Command.Run n budget)) e = cc
+  pub opening-good : (p : Parsed) {x y z : ℕ} → openingOf p ≡ Opening.Queue x y z → firstLine r m p ≡ queueLine r m x y z
+  opening-good p {x} {y} {z} =
+      first-cases (λ p t. openingOf p ≡ Opening.Queue x y z → t ≡ queueLine r m x y z) (λ e. cc)
+      (λ a b d e. let i : a ≡ x = cc in let j : b ≡ y = cc in let k : d ≡ z = cc in rw (i, j, k))
+      (λ c q e. let g : Opening.Bad ≡ Opening.Queue x y z = sym q ∙ e in cc)
+      p
 
   pub opening-bad : (p : Parsed) → openingOf p ≡ Opening.Bad → firstLine r m p ≡ bad r m
-  opening-bad Bad e = refl
-  opening-bad (Good (Command.Queue a b d)) e = cc
-  opening-bad (Good (Command.Push n token)) e = refl
-  opening-bad (Good (Command.Steal n)) e = refl
-  opening-bad (Good (Command.Batch n limit)) e = refl
-  opening-bad (Good (Command.Take n limit)) e = refl
-  opening-bad (Good (Command.Len n)) e = refl
-  opening-bad (Good (Command.Empty n)) e = refl
-  opening-bad (Good (Command.Pop n)) e = refl
-  opening-bad (Good (Command.Step n)) e = refl
-  opening-bad (Good (Command.Run n budget)) e = refl
+  opening-bad p =
+      first-cases (λ p t. openingOf p ≡ Opening.Bad → t ≡ bad r m) (λ e. refl) (λ x y z e. cc) (λ c q e. refl) p
 
 -- the words that are lent of the pool, and what they are put back into
 module _ (m : List ℕ) (n k : ℕ) (lent : k ≡ min n (length m)) where

@@ -19,7 +19,7 @@ use Rattle.journal.specs.declared.Stage.the-variants.{First, Open, Over}
 use Rattle.journal.specs.Replay.{Told, lineFeed, otherByte, byteTold, told}
 use Rattle.journal.specs.Feed.{isFirst, isOver, taken, reads, fed, rest, Outcome, outcome, Came}
 
-abbrev behind : List ℕ → Told → Told
+abbrev pub behind : List ℕ → Told → Told
 behind bytes t = record { replay = t .replay; pool = t .pool; out = bytes ++ t .out }
 
 abbrev nothing : Replay → List ℕ → Told

@@ -7,14 +7,13 @@ use lib.ListN.{length, getD, set}
 use Rattle.state.specs.List.{countsGood}
 use Rattle.state.specs.declared.Queue.{Queue}
 use Rattle.state.specs.declared.Thread.{Thread}
-use Rattle.text.specs.declared.Command.{Command}
 use Rattle.text.specs.declared.Parsed.{Parsed}
-use Rattle.text.specs.declared.Parsed.the-variants.{Good, Bad}
 use Rattle.text.specs.Print.{Wrote}
 use Rattle.journal.specs.declared.Stage.the-variants.{First}
 use Rattle.journal.specs.declared.Replay.{Replay}
 use Rattle.journal.specs.Replay.{queueLine, firstLine, lineOf}
 use Rattle.journal.specs.Feed.{isFirst, outcome}
+use Rattle.journal.proofs.Orders.{first-cases}
 use Rattle.journal.proofs.Outcome.{outcome-comes}
 use Rattle.journal.proofs.Running.{byte-feed, byte-other, unwritten}
 
@@ -53,14 +52,4 @@ module _ (r : Replay) (m : List ℕ) where
       go false e = rw e
 
   pub past-first : (p : Parsed) → isFirst (firstLine r m p .replay .stage) ≡ false
-  past-first Bad = refl
-  past-first (Good (Command.Queue a b d)) = past-queue a b d
-  past-first (Good (Command.Push n token)) = refl
-  past-first (Good (Command.Steal n)) = refl
-  past-first (Good (Command.Batch n limit)) = refl
-  past-first (Good (Command.Take n limit)) = refl
-  past-first (Good (Command.Len n)) = refl
-  past-first (Good (Command.Empty n)) = refl
-  past-first (Good (Command.Pop n)) = refl
-  past-first (Good (Command.Step n)) = refl
-  past-first (Good (Command.Run n budget)) = refl
+  past-first = first-cases r m (λ p t. isFirst (t .replay .stage) ≡ false) refl past-queue (λ c e. refl)

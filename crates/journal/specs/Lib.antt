@@ -1,3 +1,4 @@
 pub mod Command
 pub mod Replay
 pub mod Feed
+pub mod Cuts
