@@ -16,11 +16,11 @@ use Rattle.state.specs.declared.Refusal.{Refusal}
 use Rattle.state.specs.declared.Refusal.the-variants.{Idle}
 use Rattle.state.specs.declared.Thread.{Thread}
 use Rattle.state.specs.declared.Stepped.{Stepped}
-use Rattle.injector.specs.declared.runs.Wait.{Wait}
+use Rattle.wait.specs.declared.Wait.{Wait}
 use Rattle.injector.specs.declared.Tested.the-variants.{Passes, Refuses}
 use Rattle.injector.specs.Entry.{tested, refusedAfter, runEntry}
 use Rattle.injector.specs.Step.{After, isIdle, isOpen, stepOf, done, counted, runFrom}
-use Rattle.injector.specs.Wait.{waitOf, waits, waitedCall}
+use Rattle.wait.specs.Wait.{waitOf, waits, waitedCall}
 use Rattle.injector.proofs.Keeps.{Kept, kept}
 use Rattle.injector.proofs.Laws.{good-record}
 use Rattle.injector.proofs.Waits.{run-on, run-stops, run-waits}

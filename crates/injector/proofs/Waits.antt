@@ -27,10 +27,10 @@ use Rattle.state.specs.declared.Answer.the-variants.{Open}
 use Rattle.state.specs.declared.Thread.{Thread}
 use Rattle.push.specs.Push.{p2}
 use Rattle.steal.specs.Steal.{s2, s5, s5Next, s9}
-use Rattle.injector.specs.declared.runs.Wait.{Wait}
-use Rattle.injector.specs.declared.runs.Wait.the-variants.{No, Stays, Turns}
+use Rattle.wait.specs.declared.Wait.{Wait}
+use Rattle.wait.specs.declared.Wait.the-variants.{No, Stays, Turns}
 use Rattle.injector.specs.Step.{After, isOpen, stepAt, stepOf, done, once, counted, runFrom}
-use Rattle.injector.specs.Wait.{noneWaits, waitOf, waits, waitedCall}
+use Rattle.wait.specs.Wait.{noneWaits, waitOf, waits, waitedCall}
 use Rattle.injector.proofs.Keeps.{both-true}
 use Rattle.injector.proofs.Laws.{good-shared, good-record}
 

@@ -1,4 +1,4 @@
 pub mod Step
 pub mod Entry
 pub mod Audit
-pub mod Wait
+pub mod Waited

@@ -1,7 +1,7 @@
 use borrow.Author.Tests.{eq-eqb, ne-eqb}
 use borrow.Author.Needs.{needs}
-use Rattle.injector.proofs.runs.waited_call.Statement.{statement}
-use Rattle.injector.proofs.runs.waited_call.Tie as tie
+use Rattle.wait.proofs.waited_call.Statement.{statement}
+use Rattle.wait.proofs.waited_call.Tie as tie
 
 enum-told : tie.Need-enum-told
 enum-told c = search needs

@@ -1,6 +1,6 @@
 use borrow.Author.Needs.{needs}
-use Rattle.injector.proofs.runs.push_wait.Statement.{statement}
-use Rattle.injector.proofs.runs.push_wait.Tie as tie
+use Rattle.wait.proofs.push_wait.Statement.{statement}
+use Rattle.wait.proofs.push_wait.Tie as tie
 
 enum-known-line : tie.Need-enum-known-line
 enum-known-line c = search needs

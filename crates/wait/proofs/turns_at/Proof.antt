@@ -1,8 +1,8 @@
 use mathlib.Core.Path.{sym, _∙_}
 use borrow.Author.Tests.{eq-eqb, ne-eqb}
 use borrow.Author.Needs.{needs}
-use Rattle.injector.proofs.runs.turns_at.Statement.{statement}
-use Rattle.injector.proofs.runs.turns_at.Tie as tie
+use Rattle.wait.proofs.turns_at.Statement.{statement}
+use Rattle.wait.proofs.turns_at.Tie as tie
 
 offset-requires : tie.Need-offset-requires
 offset-requires c κs = search needs

@@ -8,7 +8,6 @@ use Rattle.memory.specs.Layout.{state, next, has}
 use Rattle.memory.specs.declared.MaybeBlock.{MaybeBlock}
 use Rattle.memory.specs.declared.MaybeBlock.the-variants.{Nothing, Block}
 use Rattle.memory.specs.declared.Mark.the-variants.{Write}
-use Rattle.state.specs.Move.{withCall}
 use Rattle.state.specs.declared.Queue.{Queue}
 use Rattle.state.specs.declared.PushLine.{PushLine}
 use Rattle.state.specs.declared.PushLine.the-variants.{P1, P2, P3, P4, P5, P6, P7, P8, P9, P10}
@@ -16,11 +15,8 @@ use Rattle.state.specs.declared.StealLine.{StealLine}
 use Rattle.state.specs.declared.StealLine.the-variants.{S1, S2, S3, S4, S5, S6, S7, S8, S9, S10, S11, S12, S13, S14}
 use Rattle.state.specs.declared.Call.{Call}
 use Rattle.state.specs.declared.Call.the-variants.{Idle, Push, Steal, Length, Empty}
-use Rattle.state.specs.declared.Answer.the-variants.{Open}
-use Rattle.state.specs.declared.Thread.{Thread}
-use Rattle.injector.specs.declared.Ran.{Ran}
-use Rattle.injector.specs.declared.runs.Wait.{Wait}
-use Rattle.injector.specs.declared.runs.Wait.the-variants.{No, Stays, Turns}
+use Rattle.wait.specs.declared.Wait.{Wait}
+use Rattle.wait.specs.declared.Wait.the-variants.{No, Stays, Turns}
 
 -- at offset 63 it goes to the line that has the index loaded, and back
 abbrev pub turnsAt : ℕ → Call → Wait
@@ -77,8 +73,3 @@ abbrev pub waitedCall : Call → Wait → ℕ → Call
 waitedCall call No n = call
 waitedCall call Stays n = call
 waitedCall call (Turns other) n = cond (eqb (n % 2) 1) other call
-
--- what is given back where the last `left` of `steps` steps were waiting
-abbrev pub waited : Queue → Thread → Wait → ℕ → ℕ → Ran
-waited q t wait left steps =
-    record { queue = q; thread = withCall t (waitedCall (t .call) wait left); answer = Open; steps = steps }

@@ -1,8 +1,8 @@
 use mathlib.Core.Path.{ap, _∙_}
 use borrow.Author.Needs.{needs}
-use Rattle.injector.specs.Wait.{noneWaits, unwrittenWaits}
-use Rattle.injector.proofs.runs.steal_wait.Statement.{statement}
-use Rattle.injector.proofs.runs.steal_wait.Tie as tie
+use Rattle.wait.specs.Wait.{noneWaits, unwrittenWaits}
+use Rattle.wait.proofs.steal_wait.Statement.{statement}
+use Rattle.wait.proofs.steal_wait.Tie as tie
 
 enum-known-line : tie.Need-enum-known-line
 enum-known-line c = search needs

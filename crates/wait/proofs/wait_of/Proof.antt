@@ -1,7 +1,7 @@
 use borrow.Author.Needs.{needs}
-use Rattle.injector.specs.Wait.{waitOf}
-use Rattle.injector.proofs.runs.wait_of.Statement.{statement}
-use Rattle.injector.proofs.runs.wait_of.Tie as tie
+use Rattle.wait.specs.Wait.{waitOf}
+use Rattle.wait.proofs.wait_of.Statement.{statement}
+use Rattle.wait.proofs.wait_of.Tie as tie
 
 enum-told : tie.Need-enum-told
 enum-told c = search needs

@@ -1,7 +1,7 @@
 use mathlib.Core.Path.{sym, _∙_}
 use borrow.Author.Needs.{needs}
-use Rattle.injector.proofs.runs.unwritten_waits.Statement.{statement}
-use Rattle.injector.proofs.runs.unwritten_waits.Tie as tie
+use Rattle.wait.proofs.unwritten_waits.Statement.{statement}
+use Rattle.wait.proofs.unwritten_waits.Tie as tie
 
 has-requires : tie.Need-has-requires
 has-requires c κs = search needs
