@@ -1,0 +1,14 @@
+pub mod Equations
+pub mod Index
+pub mod Memory
+pub mod Ring
+pub mod Text
+pub mod Wait
+pub mod State
+pub mod List
+pub mod Push
+pub mod Steal
+pub mod Count
+pub mod Injector
+pub mod Journal
+pub mod Table

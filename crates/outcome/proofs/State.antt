@@ -1,0 +1,8 @@
+-- Each public function of `state` has one outcome at most.
+use mathlib.Core.Path.{refl}
+use Rattle.outcome.specs.One.{One}
+use Rattle.outcome.proofs.Equations.{both}
+use Rattle.state.proofs as state
+
+pub settle : One state.settle.ended state.settle.Reads.Learnt
+settle _ _ _ _ _ _ p q = (both p q, refl)
