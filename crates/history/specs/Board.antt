@@ -1,5 +1,5 @@
 -- The board: the queue's shared words, the lent words, and a record for each thread; and what may be asked of it.
-use Prim.Native.Nat.{ℕ, _*_}
+use Prim.Native.Nat.{ℕ}
 use mathlib.Core.List.{List, map}
 use lib.ListN.{length, getD, set}
 use Rattle.memory.specs.Pool.{fresh, poolLen}
@@ -8,8 +8,6 @@ use Rattle.ring.specs.declared.Flavor.the-variants.{Fifo}
 use Rattle.state.specs.declared.Queue.{Queue}
 use Rattle.state.specs.declared.Thread.{Thread}
 use Rattle.injector.specs.declared.Request.{Request}
-use Rattle.injector.specs.declared.Begun.{Begun}
-use Rattle.injector.specs.declared.RingPopped.{RingPopped}
 use Rattle.injector.specs.Step.{After}
 use Rattle.injector.specs.Entry.{atStart, idleThread, stepEntry, runEntry, beginEntry, popEntry}
 

@@ -1,9 +1,8 @@
 -- A history: a fresh start, then any entries on any threads in any order, with what the observer noted.
 use Prim.Native.Nat.{ℕ, zero, suc}
-use mathlib.Core.Bool.{Bool, true, false, cond}
+use mathlib.Core.Bool.{cond}
 use mathlib.Core.List.{List, [], _∷_, _++_}
 use Rattle.memory.specs.Touch.{after}
-use Rattle.ring.specs.declared.Flavor.{Flavor}
 use Rattle.state.specs.List.{stateGood}
 use Rattle.state.specs.declared.Queue.{Queue}
 use Rattle.state.specs.declared.Thread.{Thread}

@@ -1,15 +1,12 @@
 -- What an observer of the steps notes. Tickets are document 01's: pushed at P4, claimed at S4.
 use Prim.Native.Nat.{ℕ, _+_}
-use mathlib.Core.Bool.{Bool, true, false, cond}
+use mathlib.Core.Bool.{cond}
 use mathlib.Core.List.{List, [], _∷_, _++_}
 use lib.Dec.{eqb}
 use Rattle.index.specs.Position.{position, ticket}
-use Rattle.index.specs.declared.Index.{Index}
 use Rattle.ring.specs.Ring.{contents}
-use Rattle.memory.specs.declared.MaybeBlock.{MaybeBlock}
 use Rattle.state.specs.declared.Queue.{Queue}
 use Rattle.state.specs.declared.Kind.{Kind}
-use Rattle.state.specs.declared.Claim.{Claim}
 use Rattle.state.specs.declared.PushLine.{PushLine}
 use Rattle.state.specs.declared.PushLine.the-variants.{P1, P2, P3, P4, P5, P6, P7, P8, P9, P10}
 use Rattle.state.specs.declared.StealLine.{StealLine}
@@ -17,7 +14,6 @@ use Rattle.state.specs.declared.StealLine.the-variants.{S1, S2, S3, S4, S5, S6,
 use Rattle.state.specs.declared.Call.{Call}
 use Rattle.state.specs.declared.Call.the-variants.{Idle, Push, Steal, Length, Empty}
 use Rattle.state.specs.declared.Answer.{Answer}
-use Rattle.state.specs.declared.Answer.the-variants.{Open}
 use Rattle.state.specs.declared.Thread.{Thread}
 use Rattle.state.specs.declared.Stepped.{Stepped}
 use Rattle.steal.specs.Steal.{past}

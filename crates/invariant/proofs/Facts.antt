@@ -1,11 +1,13 @@
 -- What everybody uses of the conjuncts: who owns a block, which lap it serves, where its words are.
 use Prim.Native.Nat.{ℕ, _+_, _*_, _-_, _≤_, _<_}
 use mathlib.Core.Path.{_≡_, refl, sym, ap, subst, _∙_}
-use mathlib.Core.Bool.{Bool, true, false, cond}
+use mathlib.Core.Bool.{Bool, true, false, _&&_, cond}
 use mathlib.Core.Logic.{_⊎_, inl, inr, ⊎-elim}
 use native.Mathlib.Omega.{arith}
 use native.Mathlib.Decide.{ℕ-discrete}
+use borrow.Author.Tests.{leb-true}
 use Rattle.memory.specs.Laws.{Room}
+use Rattle.state.specs.List.{countsGood}
 use Rattle.invariant.specs.Ghost.{Ghost, Maybe, none, some, Own, Free, Held, Open, Back, lapOf, front, resp}
 use Rattle.invariant.specs.State.{State, lp, off, T, H, N, own}
 use Rattle.invariant.specs.Shared.{Shared}
@@ -41,6 +43,18 @@ true-or-false false = inr refl
 -- both cannot be
 pub clash : {A : Type 0} (b : Bool) → b ≡ true → b ≡ false → A
 clash b p q = absurd (let z : _≡_ {A = ℕ} 0 1 = (let e : true ≡ false = sym p ∙ q in ap (λ (c : Bool). cond c 0 1) e) in omega arith)
+
+pub and-left : (a b : Bool) → (a && b) ≡ true → a ≡ true
+and-left true b e = refl
+and-left false b e = e
+
+and-right : (a b : Bool) → (a && b) ≡ true → b ≡ true
+and-right true b e = e
+and-right false b e = clash false e refl
+
+-- counts in their ranges have two blocks at the least; the other ranges are of no account
+pub two-blocks : (threads blocks ceiling : ℕ) → countsGood threads blocks ceiling ≡ true → 2 ≤ blocks
+two-blocks threads blocks ceiling e = leb-true 2 blocks (search (and-left, and-right))
 
 -- `f` with one place changed
 abbrev pub put : {A : Type 0} → (ℕ → A) → ℕ → A → ℕ → A

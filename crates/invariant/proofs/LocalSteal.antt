@@ -26,7 +26,7 @@ use Rattle.invariant.specs.State.{State, lp, off, T, H, HB, W, nxt, own}
 use Rattle.invariant.specs.Shared.{Shared}
 use Rattle.invariant.specs.Lines.{Room, AtHead, S2Ok, S3Ok, S4Ok, S6Ok, StealOk}
 use Rattle.invariant.specs.Kept.{Kept}
-use Rattle.invariant.proofs.Facts.{cond-elim, cond-same, clash}
+use Rattle.invariant.proofs.Facts.{cond-elim, cond-same, clash, and-left}
 use Rattle.invariant.proofs.Local.{goes-on, stops}
 
 pub s1-kept : (s : State) (i count : ℕ) (taken : List ℕ) (k : Kind) → Shared s → StealOk s i count taken (S1 k)
@@ -50,10 +50,6 @@ one-advance s h slot b = record { limit = refl; some-slot = omega arith; within 
 -- a batch of either kind begins with a limit of at least 1
 open-limit : (limit : ℕ) (room : Bool) → (leb 1 limit && room) ≡ true → 1 ≤ limit
 open-limit limit room e = leb-true 1 limit (and-left (leb 1 limit) room e)
-  where
-    and-left : (a b : Bool) → (a && b) ≡ true → a ≡ true
-    and-left true b e = refl
-    and-left false b e = e
 
 inside : (s : State) (k : Kind) (limit h a : ℕ) → (leb a limit ≡ true → withinLimit k a ≡ true) → Inside (position h) limit a
     → position h + a ≤ position (T s) → Advance s k h a

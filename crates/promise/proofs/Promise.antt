@@ -19,7 +19,7 @@ use Rattle.history.specs.Board.{Board, Ask, start, threadAt, asked}
 use Rattle.history.specs.Log.{Note}
 use Rattle.history.specs.History.{board, notes, askedNotes}
 use Rattle.invariant.specs.State.{lp}
-use Rattle.invariant.proofs.Facts.{clash}
+use Rattle.invariant.proofs.Facts.{two-blocks}
 use Rattle.invariant.proofs.Good.{both, good}
 use Rattle.promise.specs.Promise.{Bounded, Promise, Promised}
 use Rattle.promise.proofs.Tally.{Tally, none-yet, fair-append, tallied-append}
@@ -27,18 +27,6 @@ use Rattle.promise.proofs.World.{stateOf, Counts, World}
 use Rattle.promise.proofs.Keeps.{Kept, keeps}
 use Rattle.promise.proofs.Start.{start-world}
 use Rattle.promise.proofs.Once.{at-most-once}
-
-and-left : (a b : Bool) → (a && b) ≡ true → a ≡ true
-and-left true b e = refl
-and-left false b e = e
-
-and-right : (a b : Bool) → (a && b) ≡ true → b ≡ true
-and-right true b e = e
-and-right false b e = clash false e refl
-
--- counts in their ranges have two blocks at the least; the other ranges are of no account
-two-blocks : (threads blocks ceiling : ℕ) → countsGood threads blocks ceiling ≡ true → 2 ≤ blocks
-two-blocks threads blocks ceiling e = leb-true 2 blocks (search (and-left, and-right))
 
 module _ (flavors : List Flavor) (blocks ceiling : ℕ) (counts : countsGood (length flavors) blocks ceiling ≡ true) where
   -- what a history leaves, from a fresh start

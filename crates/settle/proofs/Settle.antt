@@ -19,7 +19,7 @@ use Rattle.injector.specs.Step.{isIdle}
 use Rattle.history.specs.Board.{Board, Ask, steps, start, threadAt, asked}
 use Rattle.history.specs.Log.{Note, pushes, claims, hands, ends}
 use Rattle.history.specs.History.{board, notes, askedNotes}
-use Rattle.invariant.proofs.Facts.{clash}
+use Rattle.invariant.proofs.Facts.{clash, two-blocks}
 use Rattle.promise.proofs.Tally.{Tally, none-yet, tally, tallied, tallied-append}
 use Rattle.promise.proofs.World.{World}
 use Rattle.promise.proofs.Keeps.{keeps}
@@ -117,17 +117,6 @@ claimed-tally (pushes p ∷ l) c = claimed-tally l (tally c (pushes p))
 claimed-tally (claims k ∷ l) c = let e = claimed-tally l (tally c (claims k)) in omega arith
 claimed-tally (hands h ∷ l) c = claimed-tally l (tally c (hands h))
 claimed-tally (ends e ∷ l) c = claimed-tally l (tally c (ends e))
-
-and-left : (a b : Bool) → (a && b) ≡ true → a ≡ true
-and-left true b e = refl
-and-left false b e = e
-
-and-right : (a b : Bool) → (a && b) ≡ true → b ≡ true
-and-right true b e = e
-and-right false b e = clash false e refl
-
-two-blocks : (threads blocks ceiling : ℕ) → countsGood threads blocks ceiling ≡ true → 2 ≤ blocks
-two-blocks threads blocks ceiling e = leb-true 2 blocks (search (and-left, and-right))
 
 module _ (flavors : List Flavor) (blocks ceiling : ℕ) (counts : countsGood (length flavors) blocks ceiling ≡ true) where
   abbrev first : Board

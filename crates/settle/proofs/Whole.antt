@@ -29,7 +29,7 @@ use Rattle.invariant.specs.State.{State}
 use Rattle.invariant.specs.Shared.{Shared}
 use Rattle.invariant.specs.Lines.{ThreadOk}
 use Rattle.invariant.specs.Kept.{stepped}
-use Rattle.invariant.proofs.Facts.{cond-elim, clash, put, put-same, put-other}
+use Rattle.invariant.proofs.Facts.{cond-elim, put, put-same, put-other, two-blocks}
 use Rattle.invariant.proofs.Idle.{begun-ok, popped-ok}
 use Rattle.invariant.proofs.Stable.{stable}
 use Rattle.invariant.proofs.Steps.{step-kept}
@@ -253,17 +253,6 @@ whole-start flavors blocks ceiling two =
           (idle-ok (length flavors) blocks ceiling two n (getD flavors n Fifo));
       owed = start-owed (length flavors) blocks ceiling two (λ n. threadAt (start flavors blocks ceiling) n .call);
     }
-
-and-left : (a b : Bool) → (a && b) ≡ true → a ≡ true
-and-left true b e = refl
-and-left false b e = e
-
-and-right : (a b : Bool) → (a && b) ≡ true → b ≡ true
-and-right true b e = e
-and-right false b e = clash false e refl
-
-two-blocks : (threads blocks ceiling : ℕ) → countsGood threads blocks ceiling ≡ true → 2 ≤ blocks
-two-blocks threads blocks ceiling e = leb-true 2 blocks (search (and-left, and-right))
 
 pub whole : (flavors : List Flavor) (blocks ceiling : ℕ) → countsGood (length flavors) blocks ceiling ≡ true → (asks : List Ask)
     → Whole (board (start flavors blocks ceiling) asks)

@@ -5,13 +5,11 @@ use state::Claim;
 use state::Made;
 use state::Queue;
 use state::StealLine;
-use state::Stepped;
-use state::Thread;
 use state::Won;
 ghost use mathlib.Core.Path.{_≡_};
 ghost use Prim.Native.Nat.{_≤_};
 ghost use Rattle.memory.specs.Touch.{leaves};
-ghost use Rattle.state.specs.Move.{ends, settle};
+ghost use Rattle.state.specs.Move.{ends};
 ghost use Rattle.steal.specs.Steal as spec;
 
 pub(crate) fn to(q: Queue, line: StealLine) -> Made
@@ -30,22 +28,6 @@ pub(crate) fn ends(q: Queue, answer: Answer) -> Made
     Made {
         queue: q,
         call: Call::Idle,
-        answer,
-    }
-}
-
-// A line that changes of its thread the call alone.
-pub(crate) fn settle(thread: Thread, made: Made) -> Stepped
-    ensures { λ r. ⌜ r ≡ settle thread made ⌝ }
-{
-    let queue = made.queue;
-    let call = made.call;
-    let answer = made.answer;
-    let ring = thread.ring;
-    let taken = thread.taken;
-    Stepped {
-        queue,
-        thread: Thread { ring, call, taken },
         answer,
     }
 }
