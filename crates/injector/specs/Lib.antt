@@ -2,3 +2,4 @@ pub mod Step
 pub mod Entry
 pub mod Audit
 pub mod Waited
+pub mod Answers

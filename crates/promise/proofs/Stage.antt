@@ -1,6 +1,6 @@
 -- At which stage a call is at each line; and what the note of an ended call makes of it.
 use Prim.Native.Nat.{ℕ, _≤_, _<_}
-use mathlib.Core.Path.{_≡_, refl, sym, subst, _∙_}
+use mathlib.Core.Path.{_≡_, refl, sym, ap, subst, _∙_}
 use mathlib.Core.Bool.{Bool, true, false, cond}
 use mathlib.Core.List.{List, [], _∷_}
 use native.Mathlib.Nat.{lt-of-lt-of-le}
@@ -105,7 +105,7 @@ over-early tokens stage answer e o m = over o (subst (λ (x : Stage). MayEnd tok
 -- .. and one that has handed over, with what it has won
 pub over-won : (tokens : List ℕ) (stage : Stage) (w : Won) → WonAt tokens stage w → Goes tokens stage Idle (answerOf w)
 over-won tokens stage (Task v) p =
-    over refl (subst (λ (x : Stage). MayEnd tokens x (answerOf (Task v))) (sym (p .gave)) (refl, p .token))
+    over refl (subst (λ (x : Stage). MayEnd tokens x (answerOf (Task v))) (sym (p .gave)) (refl, ap (λ (token : ℕ). token ∷ []) (p .token)))
 over-won tokens stage Moved p = over refl (subst (λ (x : Stage). MayEnd tokens x (answerOf Moved)) (sym (p .gave)) refl)
 
 -- the note of a step's answer

@@ -11,6 +11,7 @@ use Rattle.ring.specs.Ring.{inOrder}
 use Rattle.ring.specs.declared.Flavor.{Flavor}
 use Rattle.ring.specs.declared.Flavor.the-variants.{Fifo}
 use Rattle.steal.specs.Steal.{entersFrom}
+use Rattle.state.specs.Answers.{values}
 use Rattle.state.specs.List.{countsGood, setupGood, stateGood}
 use Rattle.state.specs.declared.Answer.{Answer}
 use Rattle.state.specs.declared.Answer.the-variants.{Open, Pushed, Task, Moved, Empty, Retry, Len, Yes, No, Refused}
@@ -29,8 +30,8 @@ pub data Stage : Type 0 where
 abbrev pub atStage : (ℕ → Stage) → ℕ → Stage → ℕ → Stage
 atStage stages n stage j = cond (eqb j n) stage (stages j)
 
--- how a call may end: with a task it has handed over its claim but for one token, and the task is its first ticket's
--- token; with `moved` it has handed over all of its claim; with any other answer it has claimed nothing
+-- how a call may end: with a task it has handed over its claim but for one token, and the value it answers is its first
+-- ticket's token; with `moved` it has handed over all of its claim; with any other answer it has claimed nothing
 abbrev pub MayEnd : List ℕ → Stage → Answer → Type 0
 MayEnd tokens nothing Open = ⊥
 MayEnd tokens nothing Pushed = Unit
@@ -45,7 +46,7 @@ MayEnd tokens nothing (Refused r) = Unit
 MayEnd tokens (claimed first count) answer = ⊥
 MayEnd tokens (handed first kept) Open = ⊥
 MayEnd tokens (handed first kept) Pushed = ⊥
-MayEnd tokens (handed first kept) (Task v) = (kept ≡ 1) × (v ≡ getD tokens first 0)
+MayEnd tokens (handed first kept) (Task v) = (kept ≡ 1) × (values (Task v) ≡ getD tokens first 0 ∷ [])
 MayEnd tokens (handed first kept) Moved = kept ≡ 0
 MayEnd tokens (handed first kept) Empty = ⊥
 MayEnd tokens (handed first kept) Retry = ⊥
