@@ -8,29 +8,13 @@ use state::Answer;
 use state::Queue;
 use state::Refusal;
 use state::Thread;
+use state::refusal_number;
 use text::Command;
 use text::Word;
 ghost use mathlib.Core.Path.{_≡_};
 ghost use Prim.Native.Nat.{_<_};
-ghost use Rattle.state.specs.Answers.{number};
 ghost use Rattle.journal.specs.Replay.{placeOf};
 ghost use Rattle.journal.specs.Command.{refusedSaid, answerSaid, beganSaid, poppedSaid, begins, pops, stepsOne, runs, threadNumber, orderOf};
-
-fn refusal_number(refusal: Refusal) -> u64
-    ensures { λ r. ⌜ r ≡ number refusal ⌝ }
-{
-    match refusal {
-        Refusal::BadSetup => 1,
-        Refusal::BadState => 2,
-        Refusal::NoThread => 3,
-        Refusal::Busy => 4,
-        Refusal::NoLimit => 5,
-        Refusal::NoRoom => 6,
-        Refusal::Idle => 7,
-        Refusal::NoBlock => 8,
-        Refusal::Spent => 9,
-    }
-}
 
 fn refused_said(refusal: Refusal) -> Said
     ensures { λ r. ⌜ r ≡ refusedSaid refusal ⌝ }

@@ -1,6 +1,6 @@
 // Prints labels, numbers and answers.
 use state::Answer;
-use state::Refusal;
+use state::refusal_number;
 use table::TableStep;
 
 fn text(bytes: &[u8]) {
@@ -14,20 +14,6 @@ pub(crate) fn line(bytes: &[u8]) {
 
 fn number(n: u64) {
     io::print_decimal(1, n);
-}
-
-fn number_of(refusal: Refusal) -> u64 {
-    match refusal {
-        Refusal::BadSetup => 1,
-        Refusal::BadState => 2,
-        Refusal::NoThread => 3,
-        Refusal::Busy => 4,
-        Refusal::NoLimit => 5,
-        Refusal::NoRoom => 6,
-        Refusal::Idle => 7,
-        Refusal::NoBlock => 8,
-        Refusal::Spent => 9,
-    }
 }
 
 fn numbered(word: &[u8], n: u64) {
@@ -46,7 +32,7 @@ fn answer(answer: Answer) {
         Answer::Len(n) => numbered(b"len ", n),
         Answer::Yes => text(b"yes"),
         Answer::No => text(b"no"),
-        Answer::Refused(refusal) => numbered(b"refused ", number_of(refusal)),
+        Answer::Refused(refusal) => numbered(b"refused ", refusal_number(refusal)),
     }
 }
 

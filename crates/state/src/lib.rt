@@ -4,6 +4,7 @@ use index::Index;
 use memory::MaybeBlock;
 use ring::Ring;
 ghost use mathlib.Core.Path.{_≡_};
+ghost use Rattle.state.specs.Answers.{number};
 ghost use Rattle.state.specs.Move.{settle};
 
 // The Injector: its two `Position`s, and the counts it was set up with.
@@ -144,6 +145,23 @@ pub struct Stepped {
     pub queue: Queue,
     pub thread: Thread,
     pub answer: Answer,
+}
+
+// Document 01, "Numbers given back".
+pub fn refusal_number(refusal: Refusal) -> u64
+    ensures { λ r. ⌜ r ≡ number refusal ⌝ }
+{
+    match refusal {
+        Refusal::BadSetup => 1,
+        Refusal::BadState => 2,
+        Refusal::NoThread => 3,
+        Refusal::Busy => 4,
+        Refusal::NoLimit => 5,
+        Refusal::NoRoom => 6,
+        Refusal::Idle => 7,
+        Refusal::NoBlock => 8,
+        Refusal::Spent => 9,
+    }
 }
 
 // A line that changed of its thread the call alone.

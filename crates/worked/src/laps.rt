@@ -1,7 +1,20 @@
 // Where laps end: two pushers at a block's last slot, a walk handed over, a pool and a ceiling used up.
 use crate::board;
+use crate::board::Board;
 use crate::say;
 use injector::Request;
+
+fn both_begin(b: Board, pool: &mut [u64]) -> Board {
+    let b = board::begin(b, pool, 0, Request::Push(100));
+    board::begin(b, pool, 1, Request::Push(200))
+}
+
+// P4 and P5 of the one, and what the other makes of it in between.
+fn one_wins(b: Board, pool: &mut [u64]) -> Board {
+    let b = board::run(b, pool, 0, 1);
+    let b = board::run(b, pool, 1, 3);
+    board::run(b, pool, 0, 2)
+}
 
 // Both take a block; one wins the last slot and links its own, the other carries its own over and gives it back.
 pub(crate) fn two_pushers() {
@@ -9,13 +22,10 @@ pub(crate) fn two_pushers() {
     let mut pool = [0u64; 512];
     let b = board::start(2, 4, 3, &mut pool);
     let b = board::fill(b, &mut pool, 62);
-    let b = board::begin(b, &mut pool, 0, Request::Push(100));
-    let b = board::begin(b, &mut pool, 1, Request::Push(200));
+    let b = both_begin(b, &mut pool);
     let b = board::run(b, &mut pool, 0, 3);
     let b = board::run(b, &mut pool, 1, 3);
-    let b = board::run(b, &mut pool, 0, 1);
-    let b = board::run(b, &mut pool, 1, 3);
-    let b = board::run(b, &mut pool, 0, 2);
+    let b = one_wins(b, &mut pool);
     board::audit(b, &mut pool);
     let b = board::run(b, &mut pool, 0, 100);
     board::audit(b, &mut pool);
@@ -39,17 +49,18 @@ pub(crate) fn walk_handed_over() {
     board::call(b, &mut pool, 1, Request::Empty, 100);
 }
 
-pub(crate) fn no_block_and_spent() {
-    say::line(b"no block is free");
+// One more push after so many, on a board of two blocks; and the length.
+fn one_push_more(ceiling: u64, pushed: u64) {
     let mut pool = [0u64; 256];
-    let b = board::start(1, 2, 5, &mut pool);
-    let b = board::fill(b, &mut pool, 125);
+    let b = board::start(1, 2, ceiling, &mut pool);
+    let b = board::fill(b, &mut pool, pushed);
     let b = board::call(b, &mut pool, 0, Request::Push(1), 100);
     board::call(b, &mut pool, 0, Request::Len, 100);
+}
+
+pub(crate) fn no_block_and_spent() {
+    say::line(b"no block is free");
+    one_push_more(5, 125);
     say::line(b"the last lap is spent");
-    let mut words = [0u64; 256];
-    let b = board::start(1, 2, 1, &mut words);
-    let b = board::fill(b, &mut words, 63);
-    let b = board::call(b, &mut words, 0, Request::Push(1), 100);
-    board::call(b, &mut words, 0, Request::Len, 100);
+    one_push_more(1, 63);
 }

@@ -1,5 +1,6 @@
 // Refusals 1 to 7, each by its exact condition, with a neighbour that is not refused.
 use crate::board;
+use crate::board::Board;
 use crate::say;
 use injector::Request;
 use ring::Flavor;
@@ -10,18 +11,13 @@ fn setup(threads: u64, blocks: u64, ceiling: u64, pool: &mut [u64]) {
     say::ready(answer);
 }
 
-// BAD_SETUP: counts at and past each end of their ranges, and lent memory a word short and a word long.
-pub(crate) fn setups() {
-    say::line(b"setups");
+fn counts(threads: u64, blocks: u64, ceiling: u64) {
     let mut pool = [0u64; 256];
-    setup(0, 2, 1, &mut pool);
-    setup(9, 2, 1, &mut pool);
-    setup(8, 2, 1, &mut pool);
-    setup(1, 1, 1, &mut pool);
-    setup(1, 33, 1, &mut pool);
-    setup(1, 2, 0, &mut pool);
-    setup(1, 2, 4294967296, &mut pool);
-    setup(1, 2, 4294967295, &mut pool);
+    setup(threads, blocks, ceiling, &mut pool);
+}
+
+// Lent memory a word short, a word long, and the largest.
+fn lengths() {
     let mut short = [0u64; 255];
     setup(1, 2, 1, &mut short);
     let mut long = [0u64; 257];
@@ -30,19 +26,43 @@ pub(crate) fn setups() {
     setup(8, 32, 4294967295, &mut largest);
 }
 
+// BAD_SETUP: counts at and past each end of their ranges.
+pub(crate) fn setups() {
+    say::line(b"setups");
+    counts(0, 2, 1);
+    counts(9, 2, 1);
+    counts(8, 2, 1);
+    counts(1, 1, 1);
+    counts(1, 33, 1);
+    counts(1, 2, 0);
+    counts(1, 2, 4294967296);
+    counts(1, 2, 4294967295);
+    lengths();
+}
+
+// With no call open.
+fn idle(b: Board, pool: &mut [u64]) {
+    let mut short = [0u64; 255];
+    board::step(b, &mut short, 0);
+    board::step(b, pool, 2);
+    board::step(b, pool, 0);
+    board::run(b, pool, 0, 0);
+}
+
+// With a push open.
+fn busy(open: Board, pool: &mut [u64]) {
+    board::begin(open, pool, 0, Request::Batch(0));
+    board::pop(open, pool, 0);
+    board::run(open, pool, 0, 0);
+}
+
 pub(crate) fn entries() {
     say::line(b"entries");
     let mut pool = [0u64; 256];
     let b = board::start(2, 2, 1, &mut pool);
-    let mut short = [0u64; 255];
-    board::step(b, &mut short, 0);
-    board::step(b, &mut pool, 2);
-    board::step(b, &mut pool, 0);
-    board::run(b, &mut pool, 0, 0);
+    idle(b, &mut pool);
     let open = board::begin(b, &mut pool, 0, Request::Push(7));
-    board::begin(open, &mut pool, 0, Request::Batch(0));
-    board::pop(open, &mut pool, 0);
-    board::run(open, &mut pool, 0, 0);
+    busy(open, &mut pool);
     board::begin(b, &mut pool, 0, Request::Batch(0));
     board::begin(b, &mut pool, 0, Request::Take(0));
     rooms();

@@ -6,6 +6,7 @@ use injector::Ran;
 use injector::Ready;
 use state::Answer;
 use state::Refusal;
+use state::refusal_number;
 
 pub(crate) fn text(bytes: &[u8]) {
     io::write_all(1, bytes);
@@ -20,23 +21,9 @@ pub(crate) fn number(n: u64) {
     io::print_decimal(1, n);
 }
 
-fn number_of(refusal: Refusal) -> u64 {
-    match refusal {
-        Refusal::BadSetup => 1,
-        Refusal::BadState => 2,
-        Refusal::NoThread => 3,
-        Refusal::Busy => 4,
-        Refusal::NoLimit => 5,
-        Refusal::NoRoom => 6,
-        Refusal::Idle => 7,
-        Refusal::NoBlock => 8,
-        Refusal::Spent => 9,
-    }
-}
-
 pub(crate) fn refused(refusal: Refusal) {
     text(b"refused ");
-    number(number_of(refusal));
+    number(refusal_number(refusal));
 }
 
 pub(crate) fn answer(answer: Answer) {

@@ -48,42 +48,68 @@ fn call_at(label: &[u8], call: Call) {
     judge(label, queue(256), &mut pool, call, 0);
 }
 
-pub(crate) fn shared() {
-    say::line(b"the shared words");
+// A call of a thread on shared words that break the list or just pass.
+fn queue_is(label: &[u8], q: Queue) {
     let mut pool = [0u64; 256];
-    let open = Call::Length(LengthLine::L1);
+    judge(label, q, &mut pool, Call::Length(LengthLine::L1), 0);
+}
+
+// The word of block 1's next.
+fn next_is(label: &[u8], next: u64) {
+    let mut pool = [0u64; 256];
+    pool[191] = next;
+    judge(label, queue(10), &mut pool, Call::Length(LengthLine::L1), 0);
+}
+
+fn ring_has(label: &[u8], count: u64) {
+    let mut pool = [0u64; 256];
+    judge(
+        label,
+        queue(10),
+        &mut pool,
+        Call::Length(LengthLine::L1),
+        count,
+    );
+}
+
+fn blocks() {
     let q = queue(10);
-    judge(b"good", q, &mut pool, open, 0);
+    queue_is(b"good", q);
     let mut bad = q;
     bad.head_block = 2;
-    judge(b"head block", bad, &mut pool, open, 0);
+    queue_is(b"head block", bad);
     let mut bad = q;
     bad.tail_block = 2;
-    judge(b"tail block", bad, &mut pool, open, 0);
-    judge(b"tail at the ceiling", queue(512), &mut pool, open, 0);
-    judge(b"tail past the ceiling", queue(514), &mut pool, open, 0);
-    let mut level = q;
+    queue_is(b"tail block", bad);
+}
+
+fn positions() {
+    queue_is(b"tail at the ceiling", queue(512));
+    queue_is(b"tail past the ceiling", queue(514));
+    let mut level = queue(10);
     let at = Index { raw: 11 };
     level.head = at;
-    judge(b"head at the tail", level, &mut pool, open, 0);
+    queue_is(b"head at the tail", level);
     let past = Index { raw: 12 };
     level.head = past;
-    judge(b"head past the tail", level, &mut pool, open, 0);
-    pool[191] = 2;
-    judge(b"a next", q, &mut pool, open, 0);
-    pool[191] = 3;
-    judge(b"a next past the pool", q, &mut pool, open, 0);
-    let mut words = [0u64; 256];
-    judge(b"64 tokens in the ring", q, &mut words, open, 64);
-    judge(b"65 tokens in the ring", q, &mut words, open, 65);
+    queue_is(b"head past the tail", level);
+}
+
+pub(crate) fn shared() {
+    say::line(b"the shared words");
+    blocks();
+    positions();
+    next_is(b"a next", 2);
+    next_is(b"a next past the pool", 3);
+    ring_has(b"64 tokens in the ring", 64);
+    ring_has(b"65 tokens in the ring", 65);
 }
 
 fn push_at(label: &[u8], line: PushLine) {
     call_at(label, Call::Push(line));
 }
 
-pub(crate) fn pushes() {
-    say::line(b"a push");
+fn before_the_ticket() {
     let none = MaybeBlock::Nothing;
     let held = MaybeBlock::Block(1);
     let lost = MaybeBlock::Block(2);
@@ -104,6 +130,10 @@ pub(crate) fn pushes() {
         b"P4 at offset 62 with none held",
         PushLine::P4(7, Index { raw: 124 }, 0, none),
     );
+}
+
+fn after_the_ticket() {
+    let none = MaybeBlock::Nothing;
     push_at(b"P5 of no block", PushLine::P5(7, Index { raw: 124 }, 2, 1));
     push_at(
         b"P6 of no held block",
@@ -122,12 +152,17 @@ pub(crate) fn pushes() {
     push_at(b"P10 good", PushLine::P10(1, true));
 }
 
+pub(crate) fn pushes() {
+    say::line(b"a push");
+    before_the_ticket();
+    after_the_ticket();
+}
+
 fn steal_at(label: &[u8], line: StealLine) {
     call_at(label, Call::Steal(line));
 }
 
-pub(crate) fn steals() {
-    say::line(b"a steal");
+fn before_the_claim() {
     let k = Kind::Steal;
     steal_at(b"S1", StealLine::S1(k));
     steal_at(b"S1 of limit 0", StealLine::S1(Kind::Batch(0)));
@@ -135,26 +170,28 @@ pub(crate) fn steals() {
     steal_at(b"S2 past the tail", StealLine::S2(k, Index { raw: 258 }));
     steal_at(b"S3 at offset 63", StealLine::S3(k, Index { raw: 126 }, 0));
     steal_at(b"S3 of no block", StealLine::S3(k, Index { raw: 0 }, 2));
+}
+
+fn walks() {
     steal_at(b"S12 at slot 62", StealLine::S12(Won::Moved, 0, 62));
     steal_at(b"S12 at slot 63", StealLine::S12(Won::Moved, 0, 63));
     steal_at(b"S13 of no block", StealLine::S13(Won::Moved, 2, 0));
     steal_at(b"S14 of no block", StealLine::S14(Won::Moved, 2));
     steal_at(b"S14", StealLine::S14(Won::Task(9), 1));
+}
+
+fn room(label: &[u8], count: u64) {
     let mut pool = [0u64; 256];
-    judge(
-        b"S1 with room",
-        queue(256),
-        &mut pool,
-        Call::Steal(StealLine::S1(Kind::Batch(63))),
-        1,
-    );
-    judge(
-        b"S1 without room",
-        queue(256),
-        &mut pool,
-        Call::Steal(StealLine::S1(Kind::Batch(63))),
-        2,
-    );
+    let call = Call::Steal(StealLine::S1(Kind::Batch(63)));
+    judge(label, queue(256), &mut pool, call, count);
+}
+
+pub(crate) fn steals() {
+    say::line(b"a steal");
+    before_the_claim();
+    walks();
+    room(b"S1 with room", 1);
+    room(b"S1 without room", 2);
 }
 
 fn claim(raw: u64, block: u64, advance: u64) -> Claim {
@@ -165,8 +202,7 @@ fn claim(raw: u64, block: u64, advance: u64) -> Claim {
     }
 }
 
-pub(crate) fn claims() {
-    say::line(b"a claim");
+fn compares() {
     let k = Kind::Batch(63);
     steal_at(b"S4", StealLine::S4(k, claim(0, 0, 63), false));
     steal_at(b"S4 of advance 0", StealLine::S4(k, claim(0, 0, 0), false));
@@ -179,6 +215,9 @@ pub(crate) fn claims() {
         StealLine::S4(k, claim(256, 0, 1), false),
     );
     steal_at(b"S4 of no block", StealLine::S4(k, claim(0, 2, 1), false));
+}
+
+fn limits() {
     steal_at(
         b"a steal of two",
         StealLine::S4(Kind::Steal, claim(0, 0, 2), false),
@@ -187,10 +226,18 @@ pub(crate) fn claims() {
         b"a batch above its limit",
         StealLine::S4(Kind::Batch(2), claim(0, 0, 3), false),
     );
+}
+
+fn leaves() {
+    let k = Kind::Batch(63);
     steal_at(b"S5 waiting", StealLine::S5(k, claim(0, 0, 63)));
     steal_at(b"S6 of no next", StealLine::S6(k, claim(0, 0, 63), 2));
     steal_at(b"S7 of no next", StealLine::S7(k, claim(0, 0, 63), 2, true));
     steal_at(b"S8", StealLine::S8(k, claim(0, 0, 63), true));
+}
+
+fn slots() {
+    let k = Kind::Batch(63);
     steal_at(b"S9 at its last slot", StealLine::S9(k, claim(4, 0, 3), 4));
     steal_at(b"S9 past its claim", StealLine::S9(k, claim(4, 0, 3), 5));
     steal_at(
@@ -202,6 +249,14 @@ pub(crate) fn claims() {
         b"S11 past its claim",
         StealLine::S11(Won::Moved, claim(4, 0, 3), 5),
     );
+}
+
+pub(crate) fn claims() {
+    say::line(b"a claim");
+    compares();
+    limits();
+    leaves();
+    slots();
 }
 
 pub(crate) fn others() {
