@@ -8,7 +8,7 @@ use state::LengthLine;
 use state::Made;
 use state::Queue;
 ghost use mathlib.Core.Path.{_≡_};
-ghost use Rattle.count.specs.Count as spec;
+ghost use Rattle.machine.specs.Count as spec;
 
 fn l1(q: Queue) -> Made
     ensures { λ r. ⌜ r ≡ spec.l1 q .made ⌝ }
@@ -40,7 +40,7 @@ fn l3(q: Queue, tail: Index, head: Index) -> Made
         return Made {
             queue: q,
             call: Call::Idle,
-            answer: Answer::Len(index::length(tail, head)),
+            answer: Answer::Len(span::length(tail, head)),
         };
     }
     Made {
@@ -65,7 +65,7 @@ fn e2(q: Queue, head: Index) -> Made
     ensures { λ r. ⌜ r ≡ spec.e2 q head .made ⌝ }
 {
     let tail = q.tail;
-    if index::same_position(head, tail) {
+    if span::same_position(head, tail) {
         return Made {
             queue: q,
             call: Call::Idle,

@@ -7,9 +7,9 @@ use Rattle.ring.specs.declared.Flavor.{Flavor}
 use Rattle.ring.specs.declared.Flavor.the-variants.{Fifo}
 use Rattle.state.specs.declared.Queue.{Queue}
 use Rattle.state.specs.declared.Thread.{Thread}
-use Rattle.injector.specs.declared.Request.{Request}
-use Rattle.injector.specs.Step.{After}
-use Rattle.injector.specs.Entry.{atStart, idleThread, stepEntry, runEntry, beginEntry, popEntry}
+use Rattle.machine.specs.declared.Request.{Request}
+use Rattle.machine.specs.Step.{After}
+use Rattle.machine.specs.Entry.{atStart, idleThread, stepEntry, runEntry, beginEntry, popEntry}
 
 pub record Board : Type 0 where
   pub queue : Queue

@@ -6,10 +6,10 @@ use Rattle.memory.specs.Touch.{after}
 use Rattle.state.specs.List.{stateGood}
 use Rattle.state.specs.declared.Queue.{Queue}
 use Rattle.state.specs.declared.Thread.{Thread}
-use Rattle.injector.specs.Step.{stepOf, isIdle, isOpen}
-use Rattle.injector.specs.Entry.{tested}
-use Rattle.injector.specs.declared.Tested.{Tested}
-use Rattle.injector.specs.declared.Tested.the-variants.{Passes, Refuses}
+use Rattle.machine.specs.Step.{stepOf, isIdle, isOpen}
+use Rattle.machine.specs.Entry.{tested}
+use Rattle.machine.specs.declared.Tested.{Tested}
+use Rattle.machine.specs.declared.Tested.the-variants.{Passes, Refuses}
 use Rattle.history.specs.Board.{Board, Ask, begins, pops, steps, runs, start, threadAt, asked}
 use Rattle.history.specs.Log.{Note, notesOf}
 

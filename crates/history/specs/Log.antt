@@ -16,8 +16,8 @@ use Rattle.state.specs.declared.Call.the-variants.{Idle, Push, Steal, Length, E
 use Rattle.state.specs.declared.Answer.{Answer}
 use Rattle.state.specs.declared.Thread.{Thread}
 use Rattle.state.specs.declared.Stepped.{Stepped}
-use Rattle.steal.specs.Steal.{past}
-use Rattle.injector.specs.Step.{isOpen}
+use Rattle.machine.specs.Steal.{past}
+use Rattle.machine.specs.Step.{isOpen}
 
 -- a won P4: the ticket of its position, and its token
 pub record Pushed : Type 0 where

@@ -17,7 +17,7 @@ use Rattle.state.specs.declared.Kind.{Kind}
 use Rattle.state.specs.declared.Claim.{Claim}
 use Rattle.state.specs.declared.Answer.the-variants.{Retry}
 use Rattle.state.specs.declared.StealLine.the-variants.{S4, S5, S9}
-use Rattle.steal.specs.Steal.{s4, s4Won, first, past}
+use Rattle.machine.specs.Steal.{s4, s4Won, first, past}
 use Rattle.invariant.specs.Ghost.{Ghost, Open, lapOf, front}
 use Rattle.invariant.specs.State.{State, lp, off, tk, T, H, nc, R, D, own}
 use Rattle.invariant.specs.Shared.{Shared}

@@ -10,8 +10,8 @@ use Rattle.state.specs.List.{limitGood, roomGood}
 use Rattle.state.specs.declared.Call.{Call}
 use Rattle.state.specs.declared.Call.the-variants.{Idle}
 use Rattle.state.specs.declared.Thread.{Thread}
-use Rattle.injector.specs.Entry.{opened, testedAs, begun, afterPop}
-use Rattle.injector.specs.declared.Request.{Request}
+use Rattle.machine.specs.Entry.{opened, testedAs, begun, afterPop}
+use Rattle.machine.specs.declared.Request.{Request}
 use Rattle.invariant.specs.State.{State}
 use Rattle.invariant.specs.Lines.{CallOk, ThreadOk}
 use Rattle.invariant.proofs.Good.{both}

@@ -16,7 +16,7 @@ use Rattle.memory.specs.declared.Mark.{Mark}
 use Rattle.memory.specs.declared.Mark.the-variants.{Write, Read, Destroy}
 use Rattle.state.specs.Move.{withTail, withTailBlock}
 use Rattle.state.specs.declared.PushLine.the-variants.{P5, P6}
-use Rattle.push.specs.Push.{p5, p6}
+use Rattle.machine.specs.Push.{p5, p6}
 use Rattle.invariant.specs.Ghost.{Ghost, Own, Free, Held, Open, Back, some, lapOf, front, resp}
 use Rattle.invariant.specs.State.{State, lp, off, tk, T, H, TB, N, np, nc, W, tok, nxt, free, own}
 use Rattle.invariant.specs.Shared.{Shared}

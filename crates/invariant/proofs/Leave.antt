@@ -16,7 +16,7 @@ use Rattle.state.specs.Move.{withHead, withHeadBlock}
 use Rattle.state.specs.declared.Kind.{Kind}
 use Rattle.state.specs.declared.Claim.{Claim}
 use Rattle.state.specs.declared.StealLine.the-variants.{S7, S8}
-use Rattle.steal.specs.Steal.{s7, s8}
+use Rattle.machine.specs.Steal.{s7, s8}
 use Rattle.invariant.specs.Ghost.{Ghost, Own, Free, Held, Open, Back, some, lapOf, front, resp}
 use Rattle.invariant.specs.State.{State, lp, off, tk, T, H, N, nc, D, nxt, free, own}
 use Rattle.invariant.specs.Shared.{Shared}

@@ -14,7 +14,7 @@ use Rattle.memory.specs.declared.MaybeBlock.the-variants.{Nothing, Block}
 use Rattle.memory.specs.declared.Mark.{Mark}
 use Rattle.memory.specs.declared.Mark.the-variants.{Write, Read, Destroy}
 use Rattle.state.specs.declared.PushLine.the-variants.{P7}
-use Rattle.push.specs.Push.{p7}
+use Rattle.machine.specs.Push.{p7}
 use Rattle.invariant.specs.Ghost.{Held, some, lapOf}
 use Rattle.invariant.specs.State.{State, lp, off, T, N, tok, nxt, own}
 use Rattle.invariant.specs.Shared.{Shared}

@@ -11,7 +11,7 @@ use Rattle.state.specs.declared.LengthLine.the-variants.{L1, L2, L3}
 use Rattle.state.specs.declared.EmptyLine.the-variants.{E1, E2}
 use Rattle.state.specs.declared.Call.the-variants.{Length, Empty}
 use Rattle.state.specs.declared.Answer.the-variants.{Len, Yes, No}
-use Rattle.count.specs.Count.{l1, l2, l3, e1, e2}
+use Rattle.machine.specs.Count.{l1, l2, l3, e1, e2}
 use Rattle.invariant.specs.State.{State, T}
 use Rattle.invariant.specs.Shared.{Shared}
 use Rattle.invariant.specs.Lines.{LengthOk, EmptyOk}

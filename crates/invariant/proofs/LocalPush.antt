@@ -14,7 +14,7 @@ use Rattle.state.specs.declared.PushLine.the-variants.{P1, P2, P3, P4, P10}
 use Rattle.state.specs.declared.Call.the-variants.{Push}
 use Rattle.state.specs.declared.Answer.the-variants.{Refused}
 use Rattle.state.specs.declared.Refusal.the-variants.{Spent}
-use Rattle.push.specs.Push.{p1, p2, p2Spent, p2Last}
+use Rattle.machine.specs.Push.{p1, p2, p2Spent, p2Last}
 use Rattle.invariant.specs.State.{State, lp, off, T, TB, L}
 use Rattle.invariant.specs.Shared.{Shared}
 use Rattle.invariant.specs.Lines.{HeldOk, AtTail, P2Ok, P4Ok, PushOk}

@@ -20,7 +20,7 @@ use Rattle.state.specs.declared.Claim.{Claim}
 use Rattle.state.specs.declared.StealLine.the-variants.{S1, S2, S3, S4, S5, S6, S7, S9, S10}
 use Rattle.state.specs.declared.Call.the-variants.{Steal}
 use Rattle.state.specs.declared.Answer.the-variants.{Empty}
-use Rattle.steal.specs.Steal.{s1, s2, s3, s5, s5Next, s6, some, s9, endAdvance, advanceOf, claimOf}
+use Rattle.machine.specs.Steal.{s1, s2, s3, s5, s5Next, s6, some, s9, endAdvance, advanceOf, claimOf}
 use Rattle.invariant.specs.Ghost.{lapOf}
 use Rattle.invariant.specs.State.{State, lp, off, T, H, HB, W, nxt, own}
 use Rattle.invariant.specs.Shared.{Shared}

@@ -14,7 +14,7 @@ use Rattle.state.specs.declared.StealLine.{StealLine}
 use Rattle.state.specs.declared.StealLine.the-variants.{S12, S14}
 use Rattle.state.specs.declared.Won.{Won}
 use Rattle.state.specs.declared.Won.the-variants.{Task, Moved}
-use Rattle.steal.specs.Steal.{walkBelow}
+use Rattle.machine.specs.Steal.{walkBelow}
 use Rattle.state.specs.declared.Answer.{Answer}
 use Rattle.invariant.specs.Ghost.{Ghost, Maybe, some, Own, Free, Held, Open, Back, lapOf, front, resp}
 use Rattle.invariant.specs.State.{State, lp, off, tk, H, nc, W, R, D, tok, own}

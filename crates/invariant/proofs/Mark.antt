@@ -19,7 +19,7 @@ use Rattle.state.specs.declared.Call.the-variants.{Idle, Steal}
 use Rattle.state.specs.declared.StealLine.the-variants.{S11}
 use Rattle.state.specs.declared.Answer.the-variants.{Open}
 use Rattle.state.specs.Move.{Move}
-use Rattle.steal.specs.Steal.{s11, s11Marked, to, walkBelow, first, past, answerOf}
+use Rattle.machine.specs.Steal.{s11, s11Marked, to, walkBelow, first, past, answerOf}
 use Rattle.invariant.specs.Ghost.{some, lapOf, front, resp}
 use Rattle.invariant.specs.State.{State, lp, off, nc, W, R, D, own}
 use Rattle.invariant.specs.Shared.{Shared}

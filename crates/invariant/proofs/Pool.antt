@@ -20,8 +20,8 @@ use Rattle.state.specs.declared.StealLine.the-variants.{S14}
 use Rattle.state.specs.declared.Answer.the-variants.{Refused}
 use Rattle.state.specs.declared.Refusal.the-variants.{NoBlock}
 use Rattle.state.specs.declared.Won.{Won}
-use Rattle.push.specs.Push.{p3, p3Took, p10}
-use Rattle.steal.specs.Steal.{s14}
+use Rattle.machine.specs.Push.{p3, p3Took, p10}
+use Rattle.machine.specs.Steal.{s14}
 use Rattle.invariant.specs.Ghost.{Ghost, none, Own, Free, Held, Open, Back, some, lapOf, front, resp}
 use Rattle.invariant.specs.State.{State, lp, T, H, N, W, R, D, nxt, free, own}
 use Rattle.invariant.specs.Shared.{Shared}

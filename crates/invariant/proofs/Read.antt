@@ -25,7 +25,7 @@ use Rattle.state.specs.declared.Stepped.{Stepped}
 use Rattle.state.specs.declared.Queue.{Queue}
 use Rattle.state.specs.Move.{Step}
 use Rattle.state.specs.declared.Answer.the-variants.{Open}
-use Rattle.steal.specs.Steal.{s10, handedOver, readOn, wonOf, entersFrom, walkBelow, first, past}
+use Rattle.machine.specs.Steal.{s10, handedOver, readOn, wonOf, entersFrom, walkBelow, first, past}
 use Rattle.invariant.specs.Ghost.{front, resp}
 use Rattle.invariant.specs.State.{State, lp, off, tk, np, W, tok}
 use Rattle.invariant.specs.Shared.{Shared}

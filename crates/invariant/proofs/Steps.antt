@@ -13,9 +13,9 @@ use Rattle.state.specs.declared.EmptyLine.the-variants.{E1, E2}
 use Rattle.state.specs.declared.Call.{Call}
 use Rattle.state.specs.declared.Call.the-variants.{Idle, Push, Steal, Length, Empty}
 use Rattle.state.specs.declared.Thread.{Thread}
-use Rattle.push.specs.Push.{push}
-use Rattle.steal.specs.Steal.{steal}
-use Rattle.injector.specs.Step.{stepAt, stepOf}
+use Rattle.machine.specs.Push.{push}
+use Rattle.machine.specs.Steal.{steal}
+use Rattle.machine.specs.Step.{stepAt, stepOf}
 use Rattle.invariant.specs.State.{State}
 use Rattle.invariant.specs.Shared.{Shared}
 use Rattle.invariant.specs.Lines.{PushOk, StealOk, LengthOk, EmptyOk, CallOk, ThreadOk}
@@ -58,12 +58,12 @@ module _ (s : State) (i count : ℕ) (taken : List ℕ) (h : Shared s) where
   push-kept (P9 v t b held) p = p9-kept s i count taken v t b held h p
   push-kept (P10 x spent) p = p10-kept s i count taken x spent h p
 
-  unfoldable pub length-kept : (line : LengthLine) → LengthOk s line → Kept s i count taken (Rattle.count.specs.Count.length (s .queue) line)
+  unfoldable pub length-kept : (line : LengthLine) → LengthOk s line → Kept s i count taken (Rattle.machine.specs.Count.length (s .queue) line)
   length-kept L1 p = l1-kept s i count taken h p
   length-kept (L2 t) p = l2-kept s i count taken t h p
   length-kept (L3 t u) p = l3-kept s i count taken t u h p
 
-  unfoldable pub empty-kept : (line : EmptyLine) → EmptyOk s line → Kept s i count taken (Rattle.count.specs.Count.empty (s .queue) line)
+  unfoldable pub empty-kept : (line : EmptyLine) → EmptyOk s line → Kept s i count taken (Rattle.machine.specs.Count.empty (s .queue) line)
   empty-kept E1 p = e1-kept s i count taken h p
   empty-kept (E2 t) p = e2-kept s i count taken t h p
 

@@ -15,7 +15,7 @@ use Rattle.memory.specs.declared.MaybeBlock.the-variants.{Nothing, Block}
 use Rattle.state.specs.Move.{withTail}
 use Rattle.state.specs.declared.PushLine.the-variants.{P2, P4, P8}
 use Rattle.state.specs.declared.Call.the-variants.{Push}
-use Rattle.push.specs.Push.{p4, p4Won, p4Lost, p4Last}
+use Rattle.machine.specs.Push.{p4, p4Won, p4Lost, p4Last}
 use Rattle.invariant.specs.Ghost.{Ghost, some, lapOf}
 use Rattle.invariant.specs.State.{State, lp, off, tk, T, TB, L, np, W, own}
 use Rattle.invariant.specs.Shared.{Shared}

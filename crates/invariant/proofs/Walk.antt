@@ -12,7 +12,7 @@ use Rattle.state.specs.declared.Call.the-variants.{Idle, Steal}
 use Rattle.state.specs.declared.StealLine.the-variants.{S12, S13}
 use Rattle.state.specs.declared.Answer.the-variants.{Open}
 use Rattle.state.specs.Move.{Move}
-use Rattle.steal.specs.Steal.{s12, s13, walkBelow, answerOf}
+use Rattle.machine.specs.Steal.{s12, s13, walkBelow, answerOf}
 use Rattle.invariant.specs.Ghost.{Back, some, lapOf, resp}
 use Rattle.invariant.specs.State.{State, R, own}
 use Rattle.invariant.specs.Shared.{Shared}

@@ -15,7 +15,7 @@ use Rattle.memory.specs.declared.MaybeBlock.the-variants.{Nothing, Block}
 use Rattle.memory.specs.declared.Mark.{Mark}
 use Rattle.memory.specs.declared.Mark.the-variants.{Write, Read, Destroy}
 use Rattle.state.specs.declared.PushLine.the-variants.{P8, P9}
-use Rattle.push.specs.Push.{p8, p9, p9Ends}
+use Rattle.machine.specs.Push.{p8, p9, p9Ends}
 use Rattle.invariant.specs.Ghost.{Held, some, lapOf}
 use Rattle.invariant.specs.State.{State, lp, off, tk, np, W, R, D, tok, nxt, free, own}
 use Rattle.invariant.specs.Shared.{Shared}

@@ -1,17 +1,15 @@
 // The BAD_STATE list, tested item by item in the order of its definition (state, specs/List.antt), and BAD_SETUP before it. Each
 // function answers true where its part of the list is not broken, and no test asks anything of what it is handed.
-mod calls;
-
+pub use calls::limit_good;
+pub use calls::room_good;
 use memory::MaybeBlock;
 use state::Call;
-use state::Kind;
 use state::Queue;
 use state::Thread;
 ghost use mathlib.Core.Path.{_≡_};
 ghost use mathlib.Core.Bool.{_&&_};
-ghost use Prim.Native.Nat.{_+_, min};
 ghost use lib.Dec.{leb};
-ghost use Rattle.state.specs.List.{countsGood, setupGood, nextGood, nextsGood, sharedGood, limitGood, roomGood, callGood, recordGood, stateGood};
+ghost use Rattle.state.specs.List.{countsGood, setupGood, nextGood, nextsGood, sharedGood, callGood, recordGood, stateGood};
 
 fn within(low: u64, n: u64, high: u64) -> bool
     ensures { λ r. ⌜ r ≡ (leb low n && leb n high) ⌝ }
@@ -74,41 +72,6 @@ pub fn shared_good(q: Queue) -> bool
         return false;
     }
     q.head.position() <= tail
-}
-
-pub fn limit_good(kind: Kind) -> bool
-    ensures { λ r. ⌜ r ≡ limitGood kind ⌝ }
-{
-    match kind {
-        Kind::Steal => true,
-        Kind::Batch(limit) => 1 <= limit,
-        Kind::Take(limit) => 1 <= limit,
-    }
-}
-
-// Whether a ring of `cells` has room for a batch beside its `count` tokens. The sum of the two might wrap.
-fn fits(count: u64, limit: u64, cells: u64) -> bool
-    ensures { λ r. ⌜ r ≡ leb (count + min limit 63) cells ⌝ }
-{
-    if cells < count {
-        return false;
-    }
-    let room = cells - count;
-    if limit < index::BLOCK_CAP {
-        return limit <= room;
-    }
-    index::BLOCK_CAP <= room
-}
-
-pub fn room_good(kind: Kind, count: u64) -> bool
-    ensures { λ r. ⌜ r ≡ roomGood kind count ⌝ }
-{
-    match kind {
-        Kind::Steal => true,
-        Kind::Batch(limit) => fits(count, limit, ring::RING_CAP),
-        // the first token is the answer, and enters no ring
-        Kind::Take(limit) => fits(count, limit, ring::RING_CAP + 1),
-    }
 }
 
 pub fn call_good(q: Queue, count: u64, call: Call) -> bool

@@ -2,10 +2,10 @@
 // no function here asks anything of its caller but that a sum or a product fits.
 ghost use mathlib.Core.Path.{_≡_};
 ghost use Prim.Native.Nat.{ℕ, _+_, _*_, _<_, _≤_, _^_};
-ghost use lib.ListN.{length, getD, set};
+ghost use lib.ListN.{getD, set};
 ghost use Rattle.memory.specs.Layout.{token, state, next, isFree, or, has};
-ghost use Rattle.memory.specs.Touch.{after, writesToken, writesState, links, frees, clears};
-ghost use Rattle.memory.specs.Pool.{pick, taking, poolLen, tableLen, fresh};
+ghost use Rattle.memory.specs.Touch.{after, writesToken, writesState, links, frees};
+ghost use Rattle.memory.specs.Pool.{poolLen, tableLen};
 
 pub const BLOCK_WORDS: u64 = 128;
 // No lent memory has FAR words or more, and so none has block number FAR_BLOCK: an address of less never wraps.
@@ -42,7 +42,7 @@ fn read(pool: &[u64], block: u64, place: u64) -> u64
     0
 }
 
-fn store(pool: &mut [u64], block: u64, place: u64, word: u64)
+pub fn store(pool: &mut [u64], block: u64, place: u64, word: u64)
     ensures { λ _. ⌜ now (pool .exit) ≡ set (now (pool .entry)) (block * 128 + place) word ⌝ }
 {
     if FAR_BLOCK <= block {
@@ -158,57 +158,6 @@ pub fn give_back(pool: &mut [u64], block: u64)
     ensures { λ _. ⌜ now (pool .exit) ≡ after (now (pool .entry)) (frees block) ⌝ }
 {
     store(pool, block, 127, 1);
-}
-
-fn clear(pool: &mut [u64], block: u64)
-    ensures { λ _. ⌜ now (pool .exit) ≡ after (now (pool .entry)) (clears block) ⌝ }
-{
-    let mut place: u64 = 0;
-    while place < BLOCK_WORDS {
-        store(pool, block, place, 0);
-        place += 1;
-    }
-}
-
-fn find_free(pool: &[u64], blocks: u64) -> MaybeBlock
-    ensures { λ r. ⌜ r ≡ pick (now (pool .entry)) blocks ⌝ }
-{
-    let mut block: u64 = 0;
-    while block < blocks {
-        if is_free(pool, block) {
-            return MaybeBlock::Block(block);
-        }
-        block += 1;
-    }
-    MaybeBlock::Nothing
-}
-
-// The lowest-numbered free block of `blocks`, cleared to zeros and no next, and so not free any more.
-pub fn take(pool: &mut [u64], blocks: u64) -> MaybeBlock
-    ensures { λ r. ⌜ r ≡ pick (now (pool .entry)) blocks ⌝ }
-    ensures { λ _. ⌜ now (pool .exit) ≡ after (now (pool .entry)) (taking (pick (now (pool .entry)) blocks)) ⌝ }
-{
-    let found = find_free(pool, blocks);
-    if let MaybeBlock::Block(block) = found {
-        clear(pool, block);
-    }
-    found
-}
-
-// The words of a pool with block 0 in use and all others free.
-pub fn reset(pool: &mut [u64], blocks: u64)
-    ensures { λ _. ⌜ now (pool .exit) ≡ fresh (length (now (pool .entry))) blocks ⌝ }
-{
-    let mut at: usize = 0;
-    while at < pool.len() {
-        pool[at] = 0;
-        at += 1;
-    }
-    let mut block: u64 = 1;
-    while block < blocks {
-        give_back(pool, block);
-        block += 1;
-    }
 }
 
 // The right length of the pool's words. The product must fit: 8192 blocks are the most that 1,048,576 words hold.

@@ -29,15 +29,3 @@ with-next _ _ _ _ _ _ p q = (ap made (both p q), refl)
 
 pub leave-lap : One index.Index.leave_lap.ended index.Index.leave_lap.Reads.Learnt
 leave-lap _ _ _ _ _ _ p q = (ap made (both p q), refl)
-
-pub same-position : One index.same_position.ended index.same_position.Reads.Learnt
-same-position _ _ _ _ _ _ p q = (both p q, refl)
-
-pub to-block-end : One index.to_block_end.ended index.to_block_end.Reads.Learnt
-to-block-end _ _ _ _ _ _ p q = (both p q, refl)
-
-pub batch-advance : One index.batch_advance.ended index.batch_advance.Reads.Learnt
-batch-advance _ _ _ _ _ _ p q = (both p q, refl)
-
-pub length : One index.length.ended index.length.Reads.Learnt
-length _ _ _ _ _ _ p q = (both p q, refl)

@@ -16,12 +16,6 @@ nexts-good _ _ _ _ _ _ p q = (both p q, refl)
 pub shared-good : One list.shared_good.ended list.shared_good.Reads.Learnt
 shared-good _ _ _ _ _ _ p q = (both p q, refl)
 
-pub limit-good : One list.limit_good.ended list.limit_good.Reads.Learnt
-limit-good _ _ _ _ _ _ p q = (both p q, refl)
-
-pub room-good : One list.room_good.ended list.room_good.Reads.Learnt
-room-good _ _ _ _ _ _ p q = (both p q, refl)
-
 pub call-good : One list.call_good.ended list.call_good.Reads.Learnt
 call-good _ _ _ _ _ _ p q = (both p q, refl)
 

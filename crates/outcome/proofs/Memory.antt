@@ -31,14 +31,11 @@ is-free _ _ _ _ _ _ p q = (both p q, refl)
 pub give-back : One memory.give_back.ended memory.give_back.Reads.Learnt
 give-back _ _ _ _ _ _ p q = (refl, first (both p q))
 
-pub take : One memory.take.ended memory.take.Reads.Learnt
-take _ _ _ _ _ _ p q = (both (p .0) (q .0), first (both (p .1) (q .1)))
-
-pub reset : One memory.reset.ended memory.reset.Reads.Learnt
-reset _ _ _ _ _ _ p q = (refl, first (both p q))
-
 pub pool-len : One memory.pool_len.ended memory.pool_len.Reads.Learnt
 pool-len _ _ _ _ _ _ p q = (both p q, refl)
 
 pub table-len : One memory.table_len.ended memory.table_len.Reads.Learnt
 table-len _ _ _ _ _ _ p q = (both p q, refl)
+
+pub store : One memory.store.ended memory.store.Reads.Learnt
+store _ _ _ _ _ _ p q = (refl, first (both p q))

@@ -38,7 +38,7 @@ fn thread_held(line: &[u8], held: u64) -> u64 {
         return 0;
     }
     let n = held as usize;
-    match text::parse(&line[..n]) {
+    match parse::parse(&line[..n]) {
         Parsed::Good(command) => thread_of(command),
         Parsed::Bad => 0,
     }

@@ -17,7 +17,7 @@ pub(crate) fn number(out: &mut [u8], at: usize, n: u64) -> usize {
     if out.len() - 20 < at {
         return at;
     }
-    text::put_number(out, at, n)
+    print::put_number(out, at, n)
 }
 
 pub(crate) fn tab_number(out: &mut [u8], at: usize, n: u64) -> usize {

@@ -18,7 +18,7 @@ use Rattle.state.specs.declared.StealLine.the-variants.{S4, S5, S9}
 use Rattle.state.specs.declared.Call.the-variants.{Idle}
 use Rattle.state.specs.declared.Answer.the-variants.{Retry}
 use Rattle.state.specs.declared.Thread.{Thread}
-use Rattle.steal.specs.Steal.{s4, s4Won, past, first}
+use Rattle.machine.specs.Steal.{s4, s4Won, past, first}
 use Rattle.history.specs.Log.{Note, claims, stealNotes}
 use Rattle.invariant.specs.State.{State, off, tk, T, H, np}
 use Rattle.invariant.specs.Lines.{S4Ok}

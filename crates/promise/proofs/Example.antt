@@ -8,11 +8,11 @@ use Rattle.ring.specs.declared.Flavor.the-variants.{Fifo}
 use Rattle.state.specs.List.{setupGood, nextsGood, sharedGood, pushGood, stealGood, recordGood}
 use Rattle.state.specs.declared.Kind.the-variants.{Steal}
 use Rattle.state.specs.declared.Answer.the-variants.{Pushed, Task, Empty}
-use Rattle.push.specs.Push.{p2, p3, p4, p9}
-use Rattle.steal.specs.Steal.{s2, s3, s4, s9, s10, s11}
-use Rattle.injector.specs.Step.{stepOf, runFrom}
-use Rattle.injector.specs.Entry.{tested, runEntry, beginEntry}
-use Rattle.injector.specs.declared.Request.{Request}
+use Rattle.machine.specs.Push.{p2, p3, p4, p9}
+use Rattle.machine.specs.Steal.{s2, s3, s4, s9, s10, s11}
+use Rattle.machine.specs.Step.{stepOf, runFrom}
+use Rattle.machine.specs.Entry.{tested, runEntry, beginEntry}
+use Rattle.machine.specs.declared.Request.{Request}
 use Rattle.history.specs.Board.{Ask, begins, runs, start}
 use Rattle.history.specs.Log.{pushes, claims, hands, ends, notesOf}
 use Rattle.history.specs.History.{runNotes, notes}

@@ -24,7 +24,7 @@ use Rattle.state.specs.declared.StealLine.{StealLine}
 use Rattle.state.specs.declared.StealLine.the-variants.{S10, S11}
 use Rattle.state.specs.declared.Thread.{Thread}
 use Rattle.state.specs.declared.Stepped.{Stepped}
-use Rattle.steal.specs.Steal.{s10, handedOver, readOn, afterReads, wonOf, walkBelow, entersFrom, past, first}
+use Rattle.machine.specs.Steal.{s10, handedOver, readOn, afterReads, wonOf, walkBelow, entersFrom, past, first}
 use Rattle.history.specs.Log.{hands, stealNotes}
 use Rattle.invariant.specs.State.{State, off, tk, T, H, np, nc}
 use Rattle.invariant.specs.Lines.{ThreadOk, S10Ok}

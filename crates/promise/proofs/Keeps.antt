@@ -21,14 +21,14 @@ use Rattle.state.specs.declared.Refusal.the-variants.{BadSetup, BadState, NoThr
 use Rattle.state.specs.declared.Call.{Call}
 use Rattle.state.specs.declared.Call.the-variants.{Idle, Push, Steal, Length, Empty}
 use Rattle.state.specs.declared.Thread.{Thread}
-use Rattle.injector.specs.Step.{After, stepOf, once, runFrom, isIdle, isOpen}
-use Rattle.injector.specs.Entry.{tested, idleThread, refusedAfter, stepTested, stepEntry, runTested, runEntry}
-use Rattle.injector.specs.Entry.{opened, testedAs, begun, beginTested, beginEntry, afterPop, popTested, popEntry}
-use Rattle.injector.specs.declared.Request.{Request}
-use Rattle.injector.specs.declared.Begun.{Begun}
-use Rattle.injector.specs.declared.RingPopped.{RingPopped}
-use Rattle.injector.specs.declared.Tested.{Tested}
-use Rattle.injector.specs.declared.Tested.the-variants.{Passes, Refuses}
+use Rattle.machine.specs.Step.{After, stepOf, once, runFrom, isIdle, isOpen}
+use Rattle.machine.specs.Entry.{tested, idleThread, refusedAfter, stepTested, stepEntry, runTested, runEntry}
+use Rattle.machine.specs.Entry.{opened, testedAs, begun, beginTested, beginEntry, afterPop, popTested, popEntry}
+use Rattle.machine.specs.declared.Request.{Request}
+use Rattle.machine.specs.declared.Begun.{Begun}
+use Rattle.machine.specs.declared.RingPopped.{RingPopped}
+use Rattle.machine.specs.declared.Tested.{Tested}
+use Rattle.machine.specs.declared.Tested.the-variants.{Passes, Refuses}
 use Rattle.history.specs.Board.{Board, Ask, begins, pops, steps, runs, threadAt, ran, withThread, asked}
 use Rattle.history.specs.Log.{Note, notesOf}
 use Rattle.history.specs.History.{runNotes, unlessRefused, askedNotes}

@@ -13,8 +13,8 @@ use Rattle.memory.specs.Pool.{poolLen}
 use Rattle.ring.specs.declared.Flavor.{Flavor}
 use Rattle.state.specs.List.{countsGood, setupGood}
 use Rattle.state.specs.declared.Queue.{Queue}
-use Rattle.injector.specs.Entry.{tested}
-use Rattle.injector.specs.declared.Tested.the-variants.{Passes}
+use Rattle.machine.specs.Entry.{tested}
+use Rattle.machine.specs.declared.Tested.the-variants.{Passes}
 use Rattle.history.specs.Board.{Board, Ask, start, threadAt, asked}
 use Rattle.history.specs.Log.{Note}
 use Rattle.history.specs.History.{board, notes, askedNotes}

@@ -29,9 +29,9 @@ use Rattle.state.specs.declared.Answer.{Answer}
 use Rattle.state.specs.declared.Answer.the-variants.{Open, Pushed, Empty, Len, Yes, No, Refused}
 use Rattle.state.specs.declared.Refusal.the-variants.{NoBlock, Spent}
 use Rattle.state.specs.declared.Made.{Made}
-use Rattle.push.specs.Push.{p2, p2Spent, p2Last, p3, p3Took, p6, p9, p10}
-use Rattle.steal.specs.Steal.{s2, s3, s5, s5Next, s8, s9, s11, s12, s13, walkBelow, answerOf, past, first}
-use Rattle.count.specs.Count.{l3, e2}
+use Rattle.machine.specs.Push.{p2, p2Spent, p2Last, p3, p3Took, p6, p9, p10}
+use Rattle.machine.specs.Steal.{s2, s3, s5, s5Next, s8, s9, s11, s12, s13, walkBelow, answerOf, past, first}
+use Rattle.machine.specs.Count.{l3, e2}
 use Rattle.invariant.specs.State.{State, off, tk, T, H}
 use Rattle.invariant.specs.Lines.{P6Ok, Leaves}
 use Rattle.invariant.proofs.Facts.{cond-elim}

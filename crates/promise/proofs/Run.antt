@@ -11,7 +11,7 @@ use Rattle.state.specs.List.{stateGood}
 use Rattle.state.specs.Move.{Step}
 use Rattle.state.specs.declared.Queue.{Queue}
 use Rattle.state.specs.declared.Thread.{Thread}
-use Rattle.injector.specs.Step.{After, stepOf, once, counted, runFrom, isOpen}
+use Rattle.machine.specs.Step.{After, stepOf, once, counted, runFrom, isOpen}
 use Rattle.history.specs.Log.{Note, lineNotes, notesOf}
 use Rattle.history.specs.History.{runNotes}
 use Rattle.invariant.specs.State.{State}

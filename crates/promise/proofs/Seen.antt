@@ -20,7 +20,7 @@ use Rattle.state.specs.Move.{Move, settled, settle}
 use Rattle.state.specs.declared.PushLine.the-variants.{P4, P8}
 use Rattle.state.specs.declared.Thread.{Thread}
 use Rattle.state.specs.declared.Stepped.{Stepped}
-use Rattle.push.specs.Push.{p4, p4Won, p4Lost, p4Last}
+use Rattle.machine.specs.Push.{p4, p4Won, p4Lost, p4Last}
 use Rattle.history.specs.Log.{Note, pushes, pushNotes}
 use Rattle.invariant.specs.Ghost.{Ghost}
 use Rattle.invariant.specs.State.{State, off, tk, T, np}

@@ -15,8 +15,8 @@ use Rattle.state.specs.declared.Call.{Call}
 use Rattle.state.specs.declared.Call.the-variants.{Idle, Push, Steal, Length, Empty}
 use Rattle.state.specs.declared.Answer.{Answer}
 use Rattle.state.specs.declared.Answer.the-variants.{Open}
-use Rattle.steal.specs.Steal.{answerOf}
-use Rattle.injector.specs.Step.{isOpen}
+use Rattle.machine.specs.Steal.{answerOf}
+use Rattle.machine.specs.Step.{isOpen}
 use Rattle.history.specs.Log.{Note, ends}
 use Rattle.invariant.specs.State.{tk}
 use Rattle.invariant.proofs.Facts.{clash, put-same, put-other}

@@ -16,7 +16,7 @@ use Rattle.memory.specs.declared.Mark.the-variants.{Write, Read, Destroy}
 use Rattle.ring.specs.declared.Flavor.{Flavor}
 use Rattle.ring.specs.declared.Flavor.the-variants.{Fifo}
 use Rattle.state.specs.declared.Thread.{Thread}
-use Rattle.injector.specs.Entry.{atStart, idleThread}
+use Rattle.machine.specs.Entry.{atStart, idleThread}
 use Rattle.history.specs.Board.{start, threadAt}
 use Rattle.invariant.specs.Ghost.{Ghost, some, Own, Free, Held, Open, Back, lapOf, front}
 use Rattle.invariant.specs.State.{State, nxt, own}

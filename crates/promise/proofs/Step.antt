@@ -17,9 +17,9 @@ use Rattle.state.specs.declared.Call.the-variants.{Idle, Push, Steal, Length, E
 use Rattle.state.specs.declared.Answer.the-variants.{Open}
 use Rattle.state.specs.declared.Thread.{Thread}
 use Rattle.state.specs.declared.Stepped.{Stepped}
-use Rattle.push.specs.Push.{push, p5, p7, p8}
-use Rattle.steal.specs.Steal.{steal, s1, s6, s7, s14}
-use Rattle.injector.specs.Step.{stepAt, stepOf}
+use Rattle.machine.specs.Push.{push, p5, p7, p8}
+use Rattle.machine.specs.Steal.{steal, s1, s6, s7, s14}
+use Rattle.machine.specs.Step.{stepAt, stepOf}
 use Rattle.history.specs.Log.{pushNotes, stealNotes, lineNotes}
 use Rattle.invariant.specs.State.{State}
 use Rattle.invariant.specs.Lines.{PushOk, StealOk, CallOk}
@@ -61,15 +61,15 @@ module _ (flavors : List Flavor) (s : State) (n : ℕ) (t : Thread) (c : Tally) 
   push-seen (P10 x spent) p e k = quiet _ (p10-quiet (c .tokens) now (s .queue) e x spent) k
 
   length-seen : (line : LengthLine) → At (c .tokens) now (placeOf (Length line))
-      → (k : StepKept s n (settled t (Rattle.count.specs.Count.length (s .queue) line)))
-      → Seen flavors s n t c [] (settle t (Rattle.count.specs.Count.length (s .queue) line .made)) (k .ghost)
+      → (k : StepKept s n (settled t (Rattle.machine.specs.Count.length (s .queue) line)))
+      → Seen flavors s n t c [] (settle t (Rattle.machine.specs.Count.length (s .queue) line .made)) (k .ghost)
   length-seen L1 e k = quiet _ (stays _ e) k
   length-seen (L2 u) e k = quiet _ (stays _ e) k
   length-seen (L3 u v) e k = quiet _ (l3-quiet (c .tokens) now (s .queue) e u v) k
 
   empty-seen : (line : EmptyLine) → At (c .tokens) now (placeOf (Empty line))
-      → (k : StepKept s n (settled t (Rattle.count.specs.Count.empty (s .queue) line)))
-      → Seen flavors s n t c [] (settle t (Rattle.count.specs.Count.empty (s .queue) line .made)) (k .ghost)
+      → (k : StepKept s n (settled t (Rattle.machine.specs.Count.empty (s .queue) line)))
+      → Seen flavors s n t c [] (settle t (Rattle.machine.specs.Count.empty (s .queue) line .made)) (k .ghost)
   empty-seen E1 e k = quiet _ (stays _ e) k
   empty-seen (E2 u) e k = quiet _ (e2-quiet (c .tokens) now (s .queue) e u) k
 

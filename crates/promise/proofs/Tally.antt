@@ -3,7 +3,7 @@ use Prim.Native.Nat.{ℕ, _+_}
 use mathlib.Core.Path.{_≡_, refl}
 use mathlib.Core.List.{List, [], _∷_, _++_}
 use Rattle.ring.specs.declared.Flavor.{Flavor}
-use Rattle.steal.specs.Steal.{entersFrom}
+use Rattle.machine.specs.Steal.{entersFrom}
 use Rattle.history.specs.Log.{Note, pushes, claims, hands, ends}
 use Rattle.promise.specs.Promise.{Stage, nothing, claimed, atStage, givenOver, Fair}
 

@@ -10,7 +10,7 @@ use Rattle.index.specs.Position.{position}
 use Rattle.ring.specs.Ring.{inOrder}
 use Rattle.ring.specs.declared.Flavor.{Flavor}
 use Rattle.ring.specs.declared.Flavor.the-variants.{Fifo}
-use Rattle.steal.specs.Steal.{entersFrom}
+use Rattle.machine.specs.Steal.{entersFrom}
 use Rattle.state.specs.Answers.{values}
 use Rattle.state.specs.List.{countsGood, setupGood, stateGood}
 use Rattle.state.specs.declared.Answer.{Answer}

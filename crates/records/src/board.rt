@@ -1,5 +1,4 @@
 // A queue and the table of its threads' records, of which the first few are lent to the step entry.
-use crate::say;
 use injector::Request;
 use ring::Flavor;
 use state::Queue;
@@ -62,7 +61,7 @@ pub(crate) fn start(threads: u64, blocks: u64, ceiling: u64, pool: &mut [u64]) -
     }
 }
 
-fn begin(b: Board, pool: &mut [u64], number: u64, what: Request) -> Board {
+pub(crate) fn begin(b: Board, pool: &mut [u64], number: u64, what: Request) -> Board {
     let queue = b.queue;
     let mut table = b.table;
     let at = place(number);
@@ -82,7 +81,8 @@ pub(crate) fn step(b: Board, pool: &mut [u64], number: u64) -> Board {
     let table = b.table;
     let lent = lend(queue, at_most_8(b.records), table, pool, number);
     let step = lent.step;
-    say::stepped(number, step);
+    let answer = step.answer;
+    say::stepped(number, answer, step.steps);
     let queue = step.queue;
     let table = lent.table;
     Board {
@@ -100,11 +100,6 @@ pub(crate) fn steps(b: Board, pool: &mut [u64], number: u64, n: u64) -> Board {
         stepped = step(stepped, pool, number);
     }
     stepped
-}
-
-pub(crate) fn call(b: Board, pool: &mut [u64], number: u64, what: Request, n: u64) -> Board {
-    let open = begin(b, pool, number, what);
-    steps(open, pool, number, n)
 }
 
 pub(crate) fn with_records(b: Board, records: usize) -> Board {
@@ -126,14 +121,14 @@ pub(crate) fn with_queue(b: Board, queue: Queue) -> Board {
     }
 }
 
-// The thread's ring holds 65 tokens.
-pub(crate) fn with_bad_ring(b: Board, number: u64) -> Board {
+// The thread's ring says that it holds so many tokens.
+pub(crate) fn with_ring(b: Board, number: u64, count: u64) -> Board {
     let queue = b.queue;
     let mut table = b.table;
     let at = place(number);
     let mut thread = table[at];
     let mut ring = thread.ring;
-    ring.count = 65;
+    ring.count = count;
     thread.ring = ring;
     table[at] = thread;
     Board {

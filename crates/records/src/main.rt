@@ -1,9 +1,15 @@
 // The step entry over a lent table of 1, 2 and 8 records, and each refusal that it gives; prints what each step answers.
 mod board;
+mod play;
 mod refusals;
-mod say;
 
-use injector::Request;
+use play::EMPTY;
+use play::LEN;
+use play::PUSH;
+use play::STEAL;
+use play::STEPS;
+use play::play;
+use say::line;
 
 fn main() {
     one();
@@ -15,44 +21,59 @@ fn main() {
 
 // Document 01's whole example: 5, 7 and 3 steps.
 fn one() {
-    say::line(b"a table of 1 record");
-    let mut pool = [0u64; 256];
-    let b = board::start(1, 2, 1, &mut pool);
-    let b = board::call(b, &mut pool, 0, Request::Push(17), 5);
-    let b = board::call(b, &mut pool, 0, Request::Steal, 7);
-    board::call(b, &mut pool, 0, Request::Steal, 3);
+    line(b"a table of 1 record");
+    let script = [
+        [PUSH, 0, 17],
+        [STEPS, 0, 5],
+        [STEAL, 0, 0],
+        [STEPS, 0, 7],
+        [STEAL, 0, 0],
+        [STEPS, 0, 3],
+    ];
+    play(1, &script);
 }
 
 // Thread 1 takes the ticket that thread 0 tried for, so thread 0 sees the tail again.
 fn two() {
-    say::line(b"a table of 2 records: two pushers");
-    let mut pool = [0u64; 256];
-    let b = board::start(2, 2, 1, &mut pool);
-    let b = board::call(b, &mut pool, 0, Request::Push(5), 2);
-    let b = board::call(b, &mut pool, 1, Request::Push(6), 3);
-    let b = board::steps(b, &mut pool, 0, 5);
-    board::steps(b, &mut pool, 1, 2);
+    line(b"a table of 2 records: two pushers");
+    let script = [
+        [PUSH, 0, 5],
+        [STEPS, 0, 2],
+        [PUSH, 1, 6],
+        [STEPS, 1, 3],
+        [STEPS, 0, 5],
+        [STEPS, 1, 2],
+    ];
+    play(2, &script);
 }
 
 // One push, two thieves: thread 1 claims first.
 fn race() {
-    say::line(b"a table of 2 records: two thieves");
-    let mut pool = [0u64; 256];
-    let b = board::start(2, 2, 1, &mut pool);
-    let b = board::call(b, &mut pool, 0, Request::Push(5), 5);
-    let b = board::call(b, &mut pool, 0, Request::Steal, 3);
-    let b = board::call(b, &mut pool, 1, Request::Steal, 4);
-    let b = board::steps(b, &mut pool, 0, 1);
-    board::steps(b, &mut pool, 1, 3);
+    line(b"a table of 2 records: two thieves");
+    let script = [
+        [PUSH, 0, 5],
+        [STEPS, 0, 5],
+        [STEAL, 0, 0],
+        [STEPS, 0, 3],
+        [STEAL, 1, 0],
+        [STEPS, 1, 4],
+        [STEPS, 0, 1],
+        [STEPS, 1, 3],
+    ];
+    play(2, &script);
 }
 
 // The first and the last record: a push by thread 7 within a length of thread 0, which loads again.
 fn eight() {
-    say::line(b"a table of 8 records");
-    let mut pool = [0u64; 256];
-    let b = board::start(8, 2, 1, &mut pool);
-    let b = board::call(b, &mut pool, 0, Request::Len, 1);
-    let b = board::call(b, &mut pool, 7, Request::Push(9), 5);
-    let b = board::steps(b, &mut pool, 0, 5);
-    board::call(b, &mut pool, 3, Request::Empty, 2);
+    line(b"a table of 8 records");
+    let script = [
+        [LEN, 0, 0],
+        [STEPS, 0, 1],
+        [PUSH, 7, 9],
+        [STEPS, 7, 5],
+        [STEPS, 0, 5],
+        [EMPTY, 3, 0],
+        [STEPS, 3, 2],
+    ];
+    play(8, &script);
 }

@@ -31,10 +31,10 @@ use Rattle.state.specs.declared.EmptyLine.the-variants.{E1, E2}
 use Rattle.state.specs.declared.Call.{Call}
 use Rattle.state.specs.declared.Call.the-variants.{Idle, Push, Steal, Length, Empty}
 use Rattle.state.specs.declared.Thread.{Thread}
-use Rattle.push.specs.Push.{push, p2, p2Spent, p2Last, p3, p3Took, p4, p4Last, p9}
-use Rattle.steal.specs.Steal.{steal, first, past, walkBelow, s2, s3, s4, s5, s5Next, s9, s10, s11, s12, s13}
-use Rattle.count.specs.Count.{l3, e2}
-use Rattle.injector.specs.Step.{stepAt, stepOf, isIdle}
+use Rattle.machine.specs.Push.{push, p2, p2Spent, p2Last, p3, p3Took, p4, p4Last, p9}
+use Rattle.machine.specs.Steal.{steal, first, past, walkBelow, s2, s3, s4, s5, s5Next, s9, s10, s11, s12, s13}
+use Rattle.machine.specs.Count.{l3, e2}
+use Rattle.machine.specs.Step.{stepAt, stepOf, isIdle}
 use Rattle.invariant.specs.Ghost.{none, some}
 use Rattle.invariant.specs.State.{State, off, T, H}
 use Rattle.invariant.specs.Lines.{PushOk, StealOk, CallOk}
@@ -205,7 +205,7 @@ module _ (q : Queue) (m : List ℕ) where
       (λ e. on-late (S9 k c slot) (S10 k c slot) refl refl)
       (λ e. on-late (S9 k c slot) (S9 k c slot) refl refl)
 
-  reads-late : (won : Won) (c : Claim) → earlySteal (Rattle.steal.specs.Steal.afterReads won c) ≡ false
+  reads-late : (won : Won) (c : Claim) → earlySteal (Rattle.machine.specs.Steal.afterReads won c) ≡ false
   reads-late won c =
       cond-elim (λ (l : StealLine). earlySteal l ≡ false) (eqb (past c) 63) _ _ (λ e. walk-late won (c .block) (first c)) (λ e. refl)
 
@@ -268,7 +268,7 @@ module _ (s : State) (i : ℕ) (t : Thread) where
 
   -- ---- length and empty
 
-  length-went : (line : LengthLine) → Goes (s .queue) (Length line) (Rattle.count.specs.Count.length (s .queue) line)
+  length-went : (line : LengthLine) → Goes (s .queue) (Length line) (Rattle.machine.specs.Count.length (s .queue) line)
   unfolding l3
   length-went L1 =
       goes-again (s .queue) (Length L1) (Length (L2 (s .queue .tail))) refl refl refl refl
@@ -279,7 +279,7 @@ module _ (s : State) (i : ℕ) (t : Thread) where
       (λ e. left refl refl)
       (λ e. goes-again (s .queue) (Length (L3 u h)) (Length L1) refl refl refl refl (λ b. rw e (omega arith)))
 
-  empty-went : (line : EmptyLine) → Goes (s .queue) (Empty line) (Rattle.count.specs.Count.empty (s .queue) line)
+  empty-went : (line : EmptyLine) → Goes (s .queue) (Empty line) (Rattle.machine.specs.Count.empty (s .queue) line)
   unfolding e2
   empty-went E1 = goes-again (s .queue) (Empty E1) (Empty (E2 (s .queue .head))) refl refl refl refl (λ b. omega arith)
   empty-went (E2 h) = cond-elim (Goes (s .queue) (Empty (E2 h))) (eqb (position (h .raw)) (position (T s))) _ _ (λ e. left refl refl) (λ e. left refl refl)

@@ -24,8 +24,8 @@ use Rattle.state.specs.declared.EmptyLine.the-variants.{E1, E2}
 use Rattle.state.specs.declared.Call.{Call}
 use Rattle.state.specs.declared.Call.the-variants.{Idle, Push, Steal, Length, Empty}
 use Rattle.state.specs.declared.Thread.{Thread}
-use Rattle.steal.specs.Steal.{s5, s5Next}
-use Rattle.injector.specs.Step.{stepAt}
+use Rattle.machine.specs.Steal.{s5, s5Next}
+use Rattle.machine.specs.Step.{stepAt}
 use Rattle.invariant.specs.Ghost.{Maybe, none, some}
 use Rattle.invariant.specs.State.{State, lp, off, tk, T, H, nc, nxt}
 use Rattle.invariant.specs.Shared.{Shared}

@@ -31,13 +31,13 @@ use Rattle.state.specs.declared.Call.{Call}
 use Rattle.state.specs.declared.Call.the-variants.{Idle, Push, Steal, Length, Empty}
 use Rattle.state.specs.declared.Thread.{Thread}
 use Rattle.state.specs.declared.Stepped.{Stepped}
-use Rattle.push.specs.Push.{push, p2, p2Spent, p2Last, p3, p3Took, p4, p9, p9Ends}
-use Rattle.steal.specs.Steal.{steal, s2, s3, s4, s5, s5Next, s9, s10, s11, s12, s13, past}
-use Rattle.count.specs.Count.{l3, e2}
-use Rattle.injector.specs.Step.{After, stepAt, stepOf, once, counted, runFrom, isIdle, isOpen}
-use Rattle.injector.specs.Entry.{idleThread, tested, stepTested, stepEntry, runTested, runEntry}
-use Rattle.injector.specs.declared.Tested.{Tested}
-use Rattle.injector.specs.declared.Tested.the-variants.{Passes, Refuses}
+use Rattle.machine.specs.Push.{push, p2, p2Spent, p2Last, p3, p3Took, p4, p9, p9Ends}
+use Rattle.machine.specs.Steal.{steal, s2, s3, s4, s5, s5Next, s9, s10, s11, s12, s13, past}
+use Rattle.machine.specs.Count.{l3, e2}
+use Rattle.machine.specs.Step.{After, stepAt, stepOf, once, counted, runFrom, isIdle, isOpen}
+use Rattle.machine.specs.Entry.{idleThread, tested, stepTested, stepEntry, runTested, runEntry}
+use Rattle.machine.specs.declared.Tested.{Tested}
+use Rattle.machine.specs.declared.Tested.the-variants.{Passes, Refuses}
 use Rattle.history.specs.Board.{Board, Ask, begins, pops, steps, runs, start, threadAt, ran, asked}
 use Rattle.history.specs.History.{board}
 use Rattle.invariant.proofs.Facts.{cond-elim}
@@ -95,13 +95,13 @@ module _ (q : Queue) (m : List ℕ) where
   push-same (P9 v t b held) = ended held _
   push-same (P10 x spent) = same-queue q
 
-  length-same : (line : LengthLine) → Keeps (Rattle.count.specs.Count.length q line)
+  length-same : (line : LengthLine) → Keeps (Rattle.machine.specs.Count.length q line)
   unfolding l3
   length-same L1 = same-queue q
   length-same (L2 t) = same-queue q
   length-same (L3 t h) = cond-elim Keeps (eqb (q .tail .raw) (t .raw)) _ _ (λ e. same-queue q) (λ e. same-queue q)
 
-  empty-same : (line : EmptyLine) → Keeps (Rattle.count.specs.Count.empty q line)
+  empty-same : (line : EmptyLine) → Keeps (Rattle.machine.specs.Count.empty q line)
   unfolding e2
   empty-same E1 = same-queue q
   empty-same (E2 h) =

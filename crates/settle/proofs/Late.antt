@@ -26,9 +26,9 @@ use Rattle.state.specs.declared.Call.the-variants.{Idle, Push, Steal, Length, E
 use Rattle.state.specs.declared.Queue.{Queue}
 use Rattle.state.specs.declared.Stepped.{Stepped}
 use Rattle.state.specs.declared.Thread.{Thread}
-use Rattle.push.specs.Push.{push, p9, p9Ends}
-use Rattle.steal.specs.Steal.{steal, s5, s5Next, s9, s10, s11, s12, s13, first, past, walkBelow, afterReads}
-use Rattle.injector.specs.Step.{stepAt, stepOf, isIdle}
+use Rattle.machine.specs.Push.{push, p9, p9Ends}
+use Rattle.machine.specs.Steal.{steal, s5, s5Next, s9, s10, s11, s12, s13, first, past, walkBelow, afterReads}
+use Rattle.machine.specs.Step.{stepAt, stepOf, isIdle}
 use Rattle.invariant.specs.State.{State, off, nxt}
 use Rattle.invariant.specs.Lines.{StealOk, CallOk, ThreadOk}
 use Rattle.invariant.proofs.Facts.{cond-elim, clash}

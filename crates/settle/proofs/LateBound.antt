@@ -19,7 +19,7 @@ use Rattle.state.specs.declared.StealLine.{StealLine}
 use Rattle.state.specs.declared.StealLine.the-variants.{S1, S2, S3, S4, S5, S6, S7, S8, S9, S10, S11, S12, S13, S14}
 use Rattle.state.specs.declared.Call.{Call}
 use Rattle.state.specs.declared.Call.the-variants.{Idle, Push, Steal, Length, Empty}
-use Rattle.steal.specs.Steal.{first, past}
+use Rattle.machine.specs.Steal.{first, past}
 use Rattle.invariant.specs.Ghost.{some}
 use Rattle.invariant.specs.State.{State, lp, off, tk, T, H, np, nc, W, nxt}
 use Rattle.invariant.specs.Shared.{Shared}

@@ -18,10 +18,10 @@ use Rattle.state.specs.declared.Call.{Call}
 use Rattle.state.specs.declared.Call.the-variants.{Idle, Push, Steal, Length, Empty}
 use Rattle.state.specs.declared.Refusal.{Refusal}
 use Rattle.state.specs.declared.Thread.{Thread}
-use Rattle.injector.specs.Step.{stepOf, once, isIdle}
-use Rattle.injector.specs.Entry.{idleThread, tested, refusedAfter, stepTested, stepEntry}
-use Rattle.injector.specs.declared.Tested.{Tested}
-use Rattle.injector.specs.declared.Tested.the-variants.{Passes, Refuses}
+use Rattle.machine.specs.Step.{stepOf, once, isIdle}
+use Rattle.machine.specs.Entry.{idleThread, tested, refusedAfter, stepTested, stepEntry}
+use Rattle.machine.specs.declared.Tested.{Tested}
+use Rattle.machine.specs.declared.Tested.the-variants.{Passes, Refuses}
 use Rattle.history.specs.Board.{Board, steps, threadAt, ran, withThread, asked}
 use Rattle.invariant.proofs.Facts.{clash, true-or-false}
 use Rattle.invariant.proofs.Good.{both, good}

@@ -14,9 +14,9 @@ use Rattle.state.specs.declared.EmptyLine.the-variants.{E1, E2}
 use Rattle.state.specs.declared.Call.{Call}
 use Rattle.state.specs.declared.Call.the-variants.{Idle, Push, Steal, Length, Empty}
 use Rattle.state.specs.declared.Thread.{Thread}
-use Rattle.push.specs.Push.{push}
-use Rattle.steal.specs.Steal.{steal}
-use Rattle.injector.specs.Step.{stepAt, stepOf}
+use Rattle.machine.specs.Push.{push}
+use Rattle.machine.specs.Steal.{steal}
+use Rattle.machine.specs.Step.{stepAt, stepOf}
 use Rattle.invariant.specs.Ghost.{Ghost}
 use Rattle.invariant.specs.State.{State}
 use Rattle.invariant.specs.Shared.{Shared}
@@ -71,17 +71,17 @@ module _ (s : State) (calls : ℕ → Call) (i : ℕ) (h : Shared s) (lines : (j
     push-owed (P10 x spent) p at = chosen-push (P10 x spent) _ _ (p10-ghost s i count taken h x spent p) (p10-owed s calls i h lines owed x spent p at)
 
     length-owed : (line : LengthLine) (p : LengthOk s line) → calls i ≡ Length line
-        → Goes (Rattle.count.specs.Count.length (s .queue) line) (length-kept s i count taken h line p .ghost)
+        → Goes (Rattle.machine.specs.Count.length (s .queue) line) (length-kept s i count taken h line p .ghost)
     unfolding length-kept
-    length-owed L1 p at = chosen (Rattle.count.specs.Count.length (s .queue) L1) _ _ (l1-ghost s i count taken h p) (l1-owed s calls i owed at)
-    length-owed (L2 t) p at = chosen (Rattle.count.specs.Count.length (s .queue) (L2 t)) _ _ (l2-ghost s i count taken t h p) (l2-owed s calls i owed t at)
-    length-owed (L3 t u) p at = chosen (Rattle.count.specs.Count.length (s .queue) (L3 t u)) _ _ (l3-ghost s i count taken t u h p) (l3-owed s calls i owed t u at)
+    length-owed L1 p at = chosen (Rattle.machine.specs.Count.length (s .queue) L1) _ _ (l1-ghost s i count taken h p) (l1-owed s calls i owed at)
+    length-owed (L2 t) p at = chosen (Rattle.machine.specs.Count.length (s .queue) (L2 t)) _ _ (l2-ghost s i count taken t h p) (l2-owed s calls i owed t at)
+    length-owed (L3 t u) p at = chosen (Rattle.machine.specs.Count.length (s .queue) (L3 t u)) _ _ (l3-ghost s i count taken t u h p) (l3-owed s calls i owed t u at)
 
     empty-owed : (line : EmptyLine) (p : EmptyOk s line) → calls i ≡ Empty line
-        → Goes (Rattle.count.specs.Count.empty (s .queue) line) (empty-kept s i count taken h line p .ghost)
+        → Goes (Rattle.machine.specs.Count.empty (s .queue) line) (empty-kept s i count taken h line p .ghost)
     unfolding empty-kept
-    empty-owed E1 p at = chosen (Rattle.count.specs.Count.empty (s .queue) E1) _ _ (e1-ghost s i count taken h p) (e1-owed s calls i owed at)
-    empty-owed (E2 t) p at = chosen (Rattle.count.specs.Count.empty (s .queue) (E2 t)) _ _ (e2-ghost s i count taken t h p) (e2-owed s calls i owed t at)
+    empty-owed E1 p at = chosen (Rattle.machine.specs.Count.empty (s .queue) E1) _ _ (e1-ghost s i count taken h p) (e1-owed s calls i owed at)
+    empty-owed (E2 t) p at = chosen (Rattle.machine.specs.Count.empty (s .queue) (E2 t)) _ _ (e2-ghost s i count taken t h p) (e2-owed s calls i owed t at)
 
   module _ (t : Thread) where
     abbrev n : ℕ

@@ -19,9 +19,9 @@ use Rattle.state.specs.declared.LengthLine.the-variants.{L1, L2, L3}
 use Rattle.state.specs.declared.EmptyLine.the-variants.{E1, E2}
 use Rattle.state.specs.declared.Call.{Call}
 use Rattle.state.specs.declared.Call.the-variants.{Idle, Push, Steal, Length, Empty}
-use Rattle.push.specs.Push.{p1, p2, p2Spent, p2Last, p4Lost}
-use Rattle.steal.specs.Steal.{s1, s2, s3, s5, s5Next, s6, s9, claimOf, endAdvance, first, past}
-use Rattle.count.specs.Count.{l1, l2, l3, e1, e2}
+use Rattle.machine.specs.Push.{p1, p2, p2Spent, p2Last, p4Lost}
+use Rattle.machine.specs.Steal.{s1, s2, s3, s5, s5Next, s6, s9, claimOf, endAdvance, first, past}
+use Rattle.machine.specs.Count.{l1, l2, l3, e1, e2}
 use Rattle.invariant.specs.State.{State, lp, off, T, TB, HB, nc, L, W, nxt}
 use Rattle.invariant.specs.Kept.{moved}
 use Rattle.invariant.proofs.Facts.{put, cond-elim}

@@ -9,7 +9,7 @@ use borrow.Author.Tests.{eqb-true, eqb-false}
 use Rattle.state.specs.declared.Won.{Won}
 use Rattle.state.specs.declared.StealLine.the-variants.{S12, S14}
 use Rattle.state.specs.declared.Call.{Call}
-use Rattle.steal.specs.Steal.{walkBelow}
+use Rattle.machine.specs.Steal.{walkBelow}
 use Rattle.invariant.specs.Ghost.{Back, some, lapOf, front}
 use Rattle.invariant.specs.State.{State, lp, off, tk, nc, W, R, D, nxt, own}
 use Rattle.invariant.specs.Shared.{Shared}

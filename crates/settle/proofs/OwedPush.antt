@@ -19,7 +19,7 @@ use Rattle.state.specs.declared.PushLine.{PushLine}
 use Rattle.state.specs.declared.PushLine.the-variants.{P3, P4, P6, P7, P8, P9, P10}
 use Rattle.state.specs.declared.Call.{Call}
 use Rattle.state.specs.declared.Call.the-variants.{Idle, Push}
-use Rattle.push.specs.Push.{p4Last}
+use Rattle.machine.specs.Push.{p4Last}
 use Rattle.invariant.specs.Ghost.{Own, Free, Held, Open, some, none, lapOf}
 use Rattle.invariant.specs.State.{State, lp, off, tk, T, N, np, W, nxt, free, own}
 use Rattle.invariant.specs.Shared.{Shared}

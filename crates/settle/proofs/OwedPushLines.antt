@@ -19,7 +19,7 @@ use Rattle.state.specs.declared.PushLine.{PushLine}
 use Rattle.state.specs.declared.PushLine.the-variants.{P3, P4, P5, P6, P7, P8, P9, P10}
 use Rattle.state.specs.declared.Call.{Call}
 use Rattle.state.specs.declared.Call.the-variants.{Idle, Push}
-use Rattle.push.specs.Push.{p3, p3Took, p4, p5, p6, p7, p8, p9, p9Ends, p10}
+use Rattle.machine.specs.Push.{p3, p3Took, p4, p5, p6, p7, p8, p9, p9Ends, p10}
 use Rattle.invariant.specs.Ghost.{Ghost, Own, Free, Held, Open, Back, some, lapOf, front}
 use Rattle.invariant.specs.State.{State, lp, off, T, N, own}
 use Rattle.invariant.specs.Shared.{Shared}

@@ -15,7 +15,7 @@ use Rattle.state.specs.declared.Won.{Won}
 use Rattle.state.specs.declared.StealLine.the-variants.{S10, S11, S12, S13, S14}
 use Rattle.state.specs.declared.Call.{Call}
 use Rattle.state.specs.declared.Call.the-variants.{Idle, Steal}
-use Rattle.steal.specs.Steal.{walkBelow, first, past}
+use Rattle.machine.specs.Steal.{walkBelow, first, past}
 use Rattle.invariant.specs.Ghost.{Own, Back, some, lapOf, front}
 use Rattle.invariant.specs.State.{State, lp, off, tk, nc, W, R, D, nxt, own}
 use Rattle.invariant.specs.Shared.{Shared}

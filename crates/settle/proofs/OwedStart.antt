@@ -7,9 +7,9 @@ use Rattle.ring.specs.declared.RingPop.{RingPop}
 use Rattle.state.specs.declared.Call.{Call}
 use Rattle.state.specs.declared.Call.the-variants.{Idle}
 use Rattle.state.specs.declared.Thread.{Thread}
-use Rattle.injector.specs.Step.{stepOf}
-use Rattle.injector.specs.Entry.{opened, begun, afterPop}
-use Rattle.injector.specs.declared.Request.{Request}
+use Rattle.machine.specs.Step.{stepOf}
+use Rattle.machine.specs.Entry.{opened, begun, afterPop}
+use Rattle.machine.specs.declared.Request.{Request}
 use Rattle.invariant.specs.Ghost.{Held, Back}
 use Rattle.invariant.specs.State.{State, T, H, own}
 use Rattle.invariant.specs.Shared.{Shared}

@@ -16,7 +16,7 @@ use Rattle.state.specs.declared.Call.{Call}
 use Rattle.state.specs.declared.Call.the-variants.{Steal}
 use Rattle.state.specs.declared.Stepped.{Stepped}
 use Rattle.state.specs.declared.Thread.{Thread}
-use Rattle.steal.specs.Steal.{s10, s11, s12, s13, s14, first, past}
+use Rattle.machine.specs.Steal.{s10, s11, s12, s13, s14, first, past}
 use Rattle.invariant.specs.Ghost.{Ghost, Free}
 use Rattle.invariant.specs.State.{State, lp, R, D}
 use Rattle.invariant.specs.Shared.{Shared}

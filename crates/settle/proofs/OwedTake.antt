@@ -17,7 +17,7 @@ use Rattle.state.specs.declared.StealLine.{StealLine}
 use Rattle.state.specs.declared.StealLine.the-variants.{S4, S5, S7, S8, S9}
 use Rattle.state.specs.declared.Call.{Call}
 use Rattle.state.specs.declared.Call.the-variants.{Idle, Steal}
-use Rattle.steal.specs.Steal.{s4, s7, s8, first, past}
+use Rattle.machine.specs.Steal.{s4, s7, s8, first, past}
 use Rattle.invariant.specs.Ghost.{Ghost, Held, Back, some, lapOf, front}
 use Rattle.invariant.specs.State.{State, lp, tk, H, nc, R, own}
 use Rattle.invariant.specs.Shared.{Shared}

@@ -9,7 +9,7 @@ use Rattle.state.specs.declared.Won.{Won}
 use Rattle.state.specs.declared.StealLine.the-variants.{S12, S13, S14}
 use Rattle.state.specs.declared.Call.{Call}
 use Rattle.state.specs.declared.Call.the-variants.{Idle, Steal}
-use Rattle.steal.specs.Steal.{walkBelow}
+use Rattle.machine.specs.Steal.{walkBelow}
 use Rattle.invariant.specs.Ghost.{Own, Free, Held, some, lapOf, front}
 use Rattle.invariant.specs.State.{State, lp, H, nc, R, own}
 use Rattle.invariant.specs.Shared.{Shared}

@@ -11,7 +11,7 @@ use Rattle.state.specs.declared.Queue.{Queue}
 use Rattle.state.specs.declared.Call.{Call}
 use Rattle.state.specs.declared.Call.the-variants.{Idle, Push, Steal, Length, Empty}
 use Rattle.state.specs.declared.Thread.{Thread}
-use Rattle.injector.specs.Step.{isIdle, stepOf}
+use Rattle.machine.specs.Step.{isIdle, stepOf}
 use Rattle.history.specs.Board.{Board, steps, threadAt, asked}
 use Rattle.invariant.proofs.Facts.{clash, true-or-false}
 use Rattle.settle.specs.Whole.{Whole, stateOf}

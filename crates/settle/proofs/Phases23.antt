@@ -14,7 +14,7 @@ use Rattle.state.specs.declared.StealLine.the-variants.{S1, S2, S3, S4, S5, S6,
 use Rattle.state.specs.declared.Call.{Call}
 use Rattle.state.specs.declared.Call.the-variants.{Idle, Push, Steal, Length, Empty}
 use Rattle.state.specs.declared.Thread.{Thread}
-use Rattle.injector.specs.Step.{isIdle}
+use Rattle.machine.specs.Step.{isIdle}
 use Rattle.history.specs.Board.{Board, steps, threadAt, asked}
 use Rattle.invariant.proofs.Facts.{cond-elim, clash}
 use Rattle.settle.specs.Whole.{Whole, stateOf}

@@ -9,7 +9,7 @@ use native.Mathlib.Omega.{arith}
 use native.Mathlib.Decide.{ℕ-discrete}
 use borrow.Author.Tests.{eq-eqb, ne-eqb}
 use Rattle.state.specs.declared.Thread.{Thread}
-use Rattle.injector.specs.Step.{isIdle}
+use Rattle.machine.specs.Step.{isIdle}
 use Rattle.history.specs.Board.{Board, steps, asked}
 use Rattle.settle.specs.Rounds.{isOpenAt, times, Round, stepAll}
 use Rattle.settle.proofs.Moves.{step-other}

@@ -15,7 +15,7 @@ use Rattle.state.specs.declared.PushLine.the-variants.{P1, P2, P3, P4, P5, P6, 
 use Rattle.state.specs.declared.StealLine.the-variants.{S1, S2, S3, S4, S5, S6, S7, S8, S9, S10, S11, S12, S13, S14}
 use Rattle.state.specs.declared.Call.{Call}
 use Rattle.state.specs.declared.Call.the-variants.{Idle, Push, Steal, Length, Empty}
-use Rattle.injector.specs.Step.{isIdle}
+use Rattle.machine.specs.Step.{isIdle}
 use Rattle.history.specs.Board.{Board, Ask, steps, start, threadAt, asked}
 use Rattle.history.specs.Log.{Note, pushes, claims, hands, ends}
 use Rattle.history.specs.History.{board, notes, askedNotes}

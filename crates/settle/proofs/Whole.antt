@@ -14,14 +14,14 @@ use Rattle.ring.specs.declared.Flavor.the-variants.{Fifo}
 use Rattle.state.specs.List.{countsGood, stateGood, limitGood, roomGood}
 use Rattle.state.specs.declared.Queue.{Queue}
 use Rattle.state.specs.declared.Thread.{Thread}
-use Rattle.injector.specs.Step.{After, stepOf, once, counted, runFrom, isIdle, isOpen}
-use Rattle.injector.specs.Entry.{idleThread, tested, stepTested, stepEntry, runTested, runEntry}
-use Rattle.injector.specs.Entry.{testedAs, begun, beginTested, beginEntry, afterPop, popTested, popEntry}
-use Rattle.injector.specs.declared.Request.{Request}
-use Rattle.injector.specs.declared.Begun.{Begun}
-use Rattle.injector.specs.declared.RingPopped.{RingPopped}
-use Rattle.injector.specs.declared.Tested.{Tested}
-use Rattle.injector.specs.declared.Tested.the-variants.{Passes, Refuses}
+use Rattle.machine.specs.Step.{After, stepOf, once, counted, runFrom, isIdle, isOpen}
+use Rattle.machine.specs.Entry.{idleThread, tested, stepTested, stepEntry, runTested, runEntry}
+use Rattle.machine.specs.Entry.{testedAs, begun, beginTested, beginEntry, afterPop, popTested, popEntry}
+use Rattle.machine.specs.declared.Request.{Request}
+use Rattle.machine.specs.declared.Begun.{Begun}
+use Rattle.machine.specs.declared.RingPopped.{RingPopped}
+use Rattle.machine.specs.declared.Tested.{Tested}
+use Rattle.machine.specs.declared.Tested.the-variants.{Passes, Refuses}
 use Rattle.history.specs.Board.{Board, Ask, begins, pops, steps, runs, start, threadAt, ran, withThread, asked}
 use Rattle.history.specs.History.{board}
 use Rattle.invariant.specs.Ghost.{Ghost}

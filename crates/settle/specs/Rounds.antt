@@ -10,7 +10,7 @@ use Rattle.index.specs.Length.{len}
 use Rattle.memory.specs.Layout.{isFree}
 use Rattle.ring.specs.declared.Flavor.{Flavor}
 use Rattle.state.specs.List.{countsGood}
-use Rattle.injector.specs.Step.{isIdle}
+use Rattle.machine.specs.Step.{isIdle}
 use Rattle.history.specs.Board.{Board, Ask, steps, start, threadAt, asked}
 use Rattle.history.specs.Log.{Note, pushes, claims, hands, ends}
 use Rattle.history.specs.History.{board, notes}

@@ -3,3 +3,4 @@ pub mod Move
 pub mod MoveLaws
 pub mod List
 pub mod ListLaws
+pub mod Tests

@@ -1,24 +1,18 @@
 // The lines of a steal and of both batches, S1 to S14: one function a line, one shared access each.
-mod claim; // S1 to S4
-mod leave; // S5 to S8
-mod made;
-mod mark; // S11 to S14
-mod read; // S9 and S10
-
-use claim::s1;
-use claim::s2;
-use claim::s3;
-use claim::s4;
-use leave::s5;
-use leave::s6;
-use leave::s7;
-use leave::s8;
-use mark::s11;
-use mark::s12;
-use mark::s13;
-use mark::s14;
-use read::s9;
-use read::s10;
+use claims::s1;
+use claims::s2;
+use claims::s3;
+use claims::s4;
+use claims::s5;
+use claims::s6;
+use claims::s7;
+use claims::s8;
+use handover::s9;
+use handover::s10;
+use handover::s11;
+use handover::s12;
+use handover::s13;
+use handover::s14;
 use state::Queue;
 use state::StealLine;
 use state::Stepped;
@@ -30,7 +24,7 @@ ghost use Prim.Native.Nat.{_*_, _≤_};
 ghost use Rattle.index.specs.Position.{position};
 ghost use Rattle.memory.specs.Touch.{after};
 ghost use Rattle.state.specs.List.{stealGood};
-ghost use Rattle.steal.specs.Steal as spec;
+ghost use Rattle.machine.specs.Steal as spec;
 
 // One step of a call that stands at `line`. What it asks is of the list, which an entry tests before it
 // makes a step: the line's claim and slot, the room in the ring, and a tail that is not past the last lap.

@@ -12,11 +12,11 @@ use Rattle.state.specs.ListLaws.{both}
 use Rattle.state.specs.declared.Queue.{Queue}
 use Rattle.state.specs.declared.Thread.{Thread}
 use Rattle.state.specs.declared.Refusal.the-variants.{BadSetup, BadState, NoThread}
-use Rattle.injector.specs.declared.Ran.{Ran}
-use Rattle.injector.specs.declared.Tested.the-variants.{Passes}
-use Rattle.injector.specs.Step.{After, isIdle}
-use Rattle.injector.specs.Entry.{tested, stepEntry}
-use Rattle.injector.proofs.Entries.{step-idle, step-made}
+use Rattle.machine.specs.declared.Ran.{Ran}
+use Rattle.machine.specs.declared.Tested.the-variants.{Passes}
+use Rattle.machine.specs.Step.{After, isIdle}
+use Rattle.machine.specs.Entry.{tested, stepEntry}
+use Rattle.machine.specs.EntryLaws.{step-idle, step-made}
 use Rattle.table.specs.declared.TableStep.{TableStep}
 use Rattle.table.specs.Table.{sizesGood, allGood, blank, recordAt, refusedTable, given, stored, TableAfter, tableEntry}
 

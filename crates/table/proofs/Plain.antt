@@ -8,8 +8,8 @@ use Rattle.state.proofs.Thread.Laws as Thread′
 use Rattle.state.proofs.Refusal as Refusal
 use Rattle.state.proofs.Refusal.Laws as Refusal′
 use Rattle.state.specs.declared.Refusal.the-variants.{BadSetup, BadState, NoThread}
-use Rattle.injector.proofs.Ran as Ran
-use Rattle.injector.proofs.Ran.Laws as Ran′
+use Rattle.machine.proofs.Ran as Ran
+use Rattle.machine.proofs.Ran.Laws as Ran′
 use Rattle.table.proofs.TableStep as TableStep
 use Rattle.table.proofs.TableStep.Laws as TableStep′
 

@@ -12,9 +12,9 @@ use Rattle.state.specs.declared.Thread.{Thread}
 use Rattle.state.specs.declared.Answer.the-variants.{Refused}
 use Rattle.state.specs.declared.Refusal.{Refusal}
 use Rattle.state.specs.declared.Refusal.the-variants.{BadSetup, BadState, NoThread, Idle}
-use Rattle.injector.specs.declared.Ran.{Ran}
-use Rattle.injector.specs.Step.{After, once, stepOf, isIdle}
-use Rattle.injector.specs.Entry.{idleThread}
+use Rattle.machine.specs.declared.Ran.{Ran}
+use Rattle.machine.specs.Step.{After, once, stepOf, isIdle}
+use Rattle.machine.specs.Entry.{idleThread}
 use Rattle.table.specs.declared.TableStep.{TableStep}
 
 -- 1: the counts, and both lent parts as long as published

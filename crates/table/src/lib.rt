@@ -1,6 +1,6 @@
 // The thin step entry over a lent table of thread records: it takes one record out, steps it by value and stores it
 // back. It asks nothing of its caller, and a refused entry changes neither the table nor the pool.
-use injector::Ran;
+use machine::Ran;
 use state::Answer;
 use state::Queue;
 use state::Refusal;
@@ -98,7 +98,7 @@ pub fn step_table(q: Queue, table: &mut [Thread], pool: &mut [u64], number: u64)
         return refused(q, Refusal::NoThread);
     }
     let at = number as usize;
-    let ran = injector::step(q, pool, table[at], number);
+    let ran = step::step(q, pool, table[at], number);
     table[at] = record_of(ran);
     rest_of(ran)
 }

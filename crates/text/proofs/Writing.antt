@@ -2,7 +2,7 @@
 use Prim.Native.Nat.{ℕ, suc, _+_, _/_, _%_, _≤_, _<_}
 use mathlib.Core.Path.{_≡_, refl, ap, _∙_}
 use mathlib.Core.List.{List, [], _∷_, _++_, append-assoc}
-use native.Mathlib.Nat.{add-zero}
+use native.Mathlib.Nat.{add-zero, zero-add}
 use native.Mathlib.Numerals.{add-one}
 use native.Mathlib.Omega.{arith}
 use lib.ListN.{length, getD, set, take, drop, length-append, drop-of-length-le}
@@ -45,6 +45,10 @@ module _ {l : List ℕ} {at : ℕ} {xs m : List ℕ} {next : ℕ} (w : Wrote l a
         buffer = rw (sets-append, v .buffer, w .buffer, w .place);
         place = rw length-append (omega (arith, w .place, v .place));
       }
+
+-- what is written at a buffer's front
+pub at-front : {l xs m : List ℕ} {next : ℕ} → Wrote l 0 xs m next → (m ≡ sets l 0 xs) × (next ≡ length xs)
+at-front {l} {xs} {m} {next} w = (w .buffer, w .place ∙ zero-add (length xs))
 
 -- ---- the digits of a number: those of n / 10, and then the last one
 

@@ -1,19 +1,5 @@
-// The replay text: a line is parsed into a command, answers are written as lines. Nothing here knows the machine.
-mod decimal;
-mod fields;
-mod lines;
-mod parser;
-mod print;
-
-pub use lines::put_bad;
-pub use lines::put_end;
-pub use lines::put_line;
-pub use lines::put_line_number;
-pub use lines::put_queue;
-pub use lines::put_refused;
-pub use parser::parse;
-pub use print::put_number;
-pub use print::put_word;
+// The replay text's definition (specs/): what a line is as a command, and how answers are spelt. Nothing here knows the
+// machine. Here are its types.
 
 // No line of the input is longer, before its line feed.
 pub const LINE_CAP: usize = 80;

@@ -1,14 +1,22 @@
 // Refusals 1 to 7, each by its exact condition, with a neighbour that is not refused.
+use crate::answers;
 use crate::board;
-use crate::board::Board;
-use crate::say;
+use crate::entries;
+use crate::play::BATCH;
+use crate::play::POP;
+use crate::play::PUSH;
+use crate::play::RUN;
+use crate::play::STEP;
+use crate::play::TAKE;
+use crate::play::play;
 use injector::Request;
 use ring::Flavor;
+use say::line;
 
 fn setup(threads: u64, blocks: u64, ceiling: u64, pool: &mut [u64]) {
     let started = injector::setup(threads, blocks, ceiling, pool);
     let answer = started.answer;
-    say::ready(answer);
+    answers::ready(answer);
 }
 
 fn counts(threads: u64, blocks: u64, ceiling: u64) {
@@ -28,7 +36,7 @@ fn lengths() {
 
 // BAD_SETUP: counts at and past each end of their ranges.
 pub(crate) fn setups() {
-    say::line(b"setups");
+    line(b"setups");
     counts(0, 2, 1);
     counts(9, 2, 1);
     counts(8, 2, 1);
@@ -40,31 +48,41 @@ pub(crate) fn setups() {
     lengths();
 }
 
-// With no call open.
-fn idle(b: Board, pool: &mut [u64]) {
+// A good board, stepped over a pool that is a word short.
+fn short_pool() {
+    let mut pool = [0u64; 256];
+    let b = board::start(2, 2, 1, &mut pool);
     let mut short = [0u64; 255];
-    board::step(b, &mut short, 0);
-    board::step(b, pool, 2);
-    board::step(b, pool, 0);
-    board::run(b, pool, 0, 0);
+    entries::step(b, &mut short, 0);
 }
 
-// With a push open.
-fn busy(open: Board, pool: &mut [u64]) {
-    board::begin(open, pool, 0, Request::Batch(0));
-    board::pop(open, pool, 0);
-    board::run(open, pool, 0, 0);
+// With no call open, and then with a push open, where a batch is refused as busy before its limit is looked at.
+fn calls() {
+    let mut pool = [0u64; 256];
+    let script = [
+        [STEP, 2, 0],
+        [STEP, 0, 0],
+        [RUN, 0, 0],
+        [PUSH, 0, 7],
+        [BATCH, 0, 0],
+        [POP, 0, 0],
+        [RUN, 0, 0],
+    ];
+    play(&mut pool, 2, 2, 1, &script);
+}
+
+// A limit of 0, with no call open.
+fn no_limit() {
+    let mut pool = [0u64; 256];
+    let script = [[BATCH, 0, 0], [TAKE, 0, 0]];
+    play(&mut pool, 2, 2, 1, &script);
 }
 
 pub(crate) fn entries() {
-    say::line(b"entries");
-    let mut pool = [0u64; 256];
-    let b = board::start(2, 2, 1, &mut pool);
-    idle(b, &mut pool);
-    let open = board::begin(b, &mut pool, 0, Request::Push(7));
-    busy(open, &mut pool);
-    board::begin(b, &mut pool, 0, Request::Batch(0));
-    board::begin(b, &mut pool, 0, Request::Take(0));
+    line(b"entries");
+    short_pool();
+    calls();
+    no_limit();
     rooms();
 }
 
@@ -93,7 +111,7 @@ fn rooms() {
 
 fn room(queue: state::Queue, pool: &mut [u64], thread: state::Thread, what: Request) {
     let begun = injector::begin(queue, pool, thread, 0, what);
-    say::line(b"  room asked");
+    line(b"  room asked");
     let answer = begun.answer;
-    say::began(0, answer);
+    answers::began(0, answer);
 }

@@ -1,5 +1,5 @@
 use borrow.Author.Needs.{needs}
-use Rattle.count.specs.Count.{e2}
+use Rattle.machine.specs.Count.{e2}
 use Rattle.count.proofs.e2.Statement.{statement}
 use Rattle.count.proofs.e2.Tie as tie
 

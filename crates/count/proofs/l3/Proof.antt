@@ -1,6 +1,6 @@
 use borrow.Author.Needs.{needs}
 use borrow.Author.Tests.{eq-eqb, ne-eqb}
-use Rattle.count.specs.Count.{l3}
+use Rattle.machine.specs.Count.{l3}
 use Rattle.count.proofs.l3.Statement.{statement}
 use Rattle.count.proofs.l3.Tie as tie
 

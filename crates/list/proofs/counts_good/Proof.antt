@@ -1,6 +1,6 @@
 use mathlib.Core.Path.{sym, _∙_}
 use borrow.Author.Needs.{needs}
-use Rattle.list.proofs.Laws.{told-true, told-false}
+use Rattle.state.specs.Tests.{told-true, told-false}
 use Rattle.list.proofs.counts_good.Statement.{statement}
 use Rattle.list.proofs.counts_good.Tie as tie
 

@@ -6,7 +6,7 @@ use native.Mathlib.Omega.{arith}
 use borrow.Author.Needs.{needs}
 use Rattle.memory.specs.Layout.{next}
 use Rattle.state.specs.List.{nextGood, nextsGood}
-use Rattle.list.proofs.Laws.{told-true, told-false}
+use Rattle.state.specs.Tests.{told-true, told-false}
 use Rattle.list.proofs.nexts_good.Statement.{statement}
 use Rattle.list.proofs.nexts_good.Tie as tie
 

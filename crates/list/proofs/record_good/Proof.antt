@@ -2,7 +2,7 @@ use mathlib.Core.Path.{refl}
 use borrow.Author.Needs.{needs}
 use borrow.Author.Tests.{le-leb, lt-leb}
 use Rattle.state.specs.List.{recordGood}
-use Rattle.list.proofs.Laws.{passed, failed}
+use Rattle.state.specs.Tests.{passed, failed}
 use Rattle.list.proofs.record_good.Statement.{statement}
 use Rattle.list.proofs.record_good.Tie as tie
 

@@ -7,7 +7,7 @@ use borrow.Author.Needs.{needs}
 use borrow.Author.Tests.{leb-true}
 use Rattle.state.specs.List.{countsGood, setupGood}
 use Rattle.state.specs.ListLaws.{both}
-use Rattle.list.proofs.Laws.{passed, failed}
+use Rattle.state.specs.Tests.{passed, failed}
 use Rattle.list.proofs.setup_good.Statement.{statement}
 use Rattle.list.proofs.setup_good.Tie as tie
 

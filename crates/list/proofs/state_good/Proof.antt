@@ -1,5 +1,5 @@
 use borrow.Author.Needs.{needs}
-use Rattle.list.proofs.Laws.{passed, failed, told-true, told-false}
+use Rattle.state.specs.Tests.{passed, failed, told-true, told-false}
 use Rattle.list.proofs.state_good.Statement.{statement}
 use Rattle.list.proofs.state_good.Tie as tie
 

@@ -1,5 +1,5 @@
 use borrow.Author.Needs.{needs}
-use Rattle.push.specs.Laws.{p2-leaves, p4-leaves}
+use Rattle.machine.specs.PushLaws.{p2-leaves, p4-leaves}
 use Rattle.push.proofs.step.Statement.{statement}
 use Rattle.push.proofs.step.Tie as tie
 

@@ -1,7 +1,7 @@
 use mathlib.Core.Path.{refl}
 use borrow.Author.Needs.{needs}
-use Rattle.steal.proofs.Laws.{claim-s4, claim-s8, claim-s11}
-use Rattle.steal.proofs.Laws.{s2-leaves, s3-leaves, s4-leaves, s5-leaves, s9-leaves, s12-leaves}
+use Rattle.machine.specs.StealLaws.{claim-s4, claim-s8, claim-s11}
+use Rattle.machine.specs.StealLaws.{s2-leaves, s3-leaves, s4-leaves, s5-leaves, s9-leaves, s12-leaves}
 use Rattle.steal.proofs.step.Statement.{statement}
 use Rattle.steal.proofs.step.Tie as tie
 

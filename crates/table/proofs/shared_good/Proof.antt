@@ -1,5 +1,5 @@
 use borrow.Author.Needs.{needs}
-use Rattle.list.proofs.Laws.{passed, failed}
+use Rattle.state.specs.Tests.{passed, failed}
 use Rattle.table.proofs.shared_good.Statement.{statement}
 use Rattle.table.proofs.shared_good.Tie as tie
 use Rattle.table.proofs.shared_good.Reads as reads

@@ -2,7 +2,7 @@ use Prim.Native.Nat.{ℕ}
 use mathlib.Core.Path.{ap}
 use lib.Dec.{eqb}
 use borrow.Author.Needs.{needs}
-use Rattle.list.proofs.Laws.{passed, failed}
+use Rattle.state.specs.Tests.{passed, failed}
 use Rattle.table.specs.Table.{sizesGood}
 use Rattle.table.proofs.sizes_good.Statement.{statement}
 use Rattle.table.proofs.sizes_good.Tie as tie

@@ -15,9 +15,9 @@ use Rattle.state.specs.declared.Refusal.{Refusal}
 use Rattle.state.specs.declared.Refusal.the-variants.{BadSetup, BadState, NoThread}
 use Rattle.state.proofs.Queue as Queue′
 use Rattle.state.proofs.Thread as Thread′
-use Rattle.list.proofs.Laws.{told-true, told-false}
-use Rattle.injector.specs.declared.Ran.{Ran}
-use Rattle.injector.specs.Entry.{stepEntry}
+use Rattle.state.specs.Tests.{told-true, told-false}
+use Rattle.machine.specs.declared.Ran.{Ran}
+use Rattle.machine.specs.Entry.{stepEntry}
 use Rattle.table.specs.declared.TableStep.{TableStep}
 use Rattle.table.specs.Table.{TableAfter, sizesGood, allGood, blank, refusal, refusedTable, given, tableEntry}
 use Rattle.table.proofs.Laws.{bad-setup, bad-shared, bad-record, no-thread, within, made}
@@ -42,10 +42,10 @@ use Rattle.table.proofs.has_thread as has-thread
 use Rattle.table.proofs.has_thread.Symbol as has-thread-def
 use Rattle.table.proofs.has_thread.Symbol.{name as #table·has-thread}
 use Rattle.table.proofs.has_thread.Met as has-thread-thm
-use Rattle.injector.proofs.step as step
-use Rattle.injector.proofs.step.Symbol as step-def
-use Rattle.injector.proofs.step.Symbol.{name as #injector·step}
-use Rattle.injector.proofs.step.Met as step-thm
+use Rattle.step.proofs.step as step
+use Rattle.step.proofs.step.Symbol as step-def
+use Rattle.step.proofs.step.Symbol.{name as #step·step}
+use Rattle.step.proofs.step.Met as step-thm
 use Rattle.table.proofs.record_of as record-of
 use Rattle.table.proofs.record_of.Symbol as record-of-def
 use Rattle.table.proofs.record_of.Symbol.{name as #table·record-of}
@@ -153,7 +153,7 @@ module _ {M : Type 1} (𝓤 : URA M) (H : Heap 𝓤) (A : Atoms 𝓤) (W : Given
       (known-shared : Triple 𝓤 (C #table·shared-good) (Of 𝓤 H A shared-good.ended (shared-good.clauses 𝓤 H A mem run)))
       (known-all : Triple 𝓤 (C #table·all-good) (Of 𝓤 H A all-good.ended (all-good.clauses 𝓤 H A mem run)))
       (known-has : Triple 𝓤 (C #table·has-thread) (Of 𝓤 H A has-thread.ended (has-thread.clauses 𝓤 H A mem run)))
-      (known-step : Triple 𝓤 (C #injector·step) (Of 𝓤 H A step.ended (step.clauses 𝓤 H A mem run)))
+      (known-step : Triple 𝓤 (C #step·step) (Of 𝓤 H A step.ended (step.clauses 𝓤 H A mem run)))
       (known-record : Triple 𝓤 (C #table·record-of) (Of 𝓤 H A record-of.ended (record-of.clauses 𝓤 H A mem run)))
       (known-rest : Triple 𝓤 (C #table·rest-of) (Of 𝓤 H A rest-of.ended (rest-of.clauses 𝓤 H A mem run))) where
     walk : Ok queue-data x → Room Thread′.the-row (length ys) → Room u64 (length ws) → n < 2 ^ 64
@@ -270,7 +270,7 @@ step-table-spec 𝓤 H 𝓜 𝓖 𝓡 =
     (cites 𝓤 H 𝓜 𝓖 𝓡 code.env #table·shared-good shared-good-def.routine code.calls-table·shared-good shared-good.ended (shared-good.clauses 𝓤 H (𝓖 .A) (𝓜 .mem) (𝓡 .run)) (shared-good-thm.met 𝓤 H 𝓜 𝓖 𝓡))
     (cites 𝓤 H 𝓜 𝓖 𝓡 code.env #table·all-good all-good-def.routine code.calls-table·all-good all-good.ended (all-good.clauses 𝓤 H (𝓖 .A) (𝓜 .mem) (𝓡 .run)) (all-good-thm.met 𝓤 H 𝓜 𝓖 𝓡))
     (cites 𝓤 H 𝓜 𝓖 𝓡 code.env #table·has-thread has-thread-def.routine code.calls-table·has-thread has-thread.ended (has-thread.clauses 𝓤 H (𝓖 .A) (𝓜 .mem) (𝓡 .run)) (has-thread-thm.met 𝓤 H 𝓜 𝓖 𝓡))
-    (cites 𝓤 H 𝓜 𝓖 𝓡 code.env #injector·step step-def.routine code.calls-injector·step step.ended (step.clauses 𝓤 H (𝓖 .A) (𝓜 .mem) (𝓡 .run)) (step-thm.met 𝓤 H 𝓜 𝓖 𝓡))
+    (cites 𝓤 H 𝓜 𝓖 𝓡 code.env #step·step step-def.routine code.calls-step·step step.ended (step.clauses 𝓤 H (𝓖 .A) (𝓜 .mem) (𝓡 .run)) (step-thm.met 𝓤 H 𝓜 𝓖 𝓡))
     (cites 𝓤 H 𝓜 𝓖 𝓡 code.env #table·record-of record-of-def.routine code.calls-table·record-of record-of.ended (record-of.clauses 𝓤 H (𝓖 .A) (𝓜 .mem) (𝓡 .run)) (record-of-thm.met 𝓤 H 𝓜 𝓖 𝓡))
     (cites 𝓤 H 𝓜 𝓖 𝓡 code.env #table·rest-of rest-of-def.routine code.calls-table·rest-of rest-of.ended (rest-of.clauses 𝓤 H (𝓖 .A) (𝓜 .mem) (𝓡 .run)) (rest-of-thm.met 𝓤 H 𝓜 𝓖 𝓡))
     (are .0) (are .1 .0 .0 .1) (are .1 .1 .0 .0 .1) (are .1 .1 .1 .0 .1)))

@@ -1,2 +1,0 @@
-pub mod Count
-pub mod Laws

@@ -1,0 +1,39 @@
+// BAD_SETUP, BAD_STATE, NO_THREAD: tested first by every entry that is handed a thread.
+use machine::Tested;
+use state::Call;
+use state::Queue;
+use state::Refusal;
+use state::Thread;
+ghost use mathlib.Core.Path.{_≡_};
+ghost use Rattle.machine.specs.Entry.{tested};
+ghost use Rattle.machine.specs.Step.{isIdle};
+
+pub fn test(q: Queue, pool: &[u64], thread: Thread, number: u64) -> Tested
+    ensures { λ r. ⌜ r ≡ tested q (now (pool .entry)) thread number ⌝ }
+{
+    let len = pool.len() as u64;
+    let threads = q.threads;
+    if !list::setup_good(q, len) {
+        return Tested::Refuses(Refusal::BadSetup);
+    }
+    let good = list::state_good(q, pool, thread);
+    if !good {
+        return Tested::Refuses(Refusal::BadState);
+    }
+    if threads <= number {
+        return Tested::Refuses(Refusal::NoThread);
+    }
+    Tested::Passes
+}
+
+pub fn is_idle(call: Call) -> bool
+    ensures { λ r. ⌜ r ≡ isIdle call ⌝ }
+{
+    match call {
+        Call::Idle => true,
+        Call::Push(_) => false,
+        Call::Steal(_) => false,
+        Call::Length(_) => false,
+        Call::Empty(_) => false,
+    }
+}

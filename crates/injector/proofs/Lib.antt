@@ -1,5 +1,0 @@
-pub mod Laws
-pub mod Entries
-pub mod Keeps
-pub mod Waits
-pub mod Going

@@ -1,5 +1,0 @@
-pub mod Step
-pub mod Entry
-pub mod Audit
-pub mod Waited
-pub mod Answers

@@ -1,0 +1,12 @@
+pub mod Push
+pub mod PushLaws
+pub mod Steal
+pub mod StealLaws
+pub mod Count
+pub mod CountLaws
+pub mod Step
+pub mod Entry
+pub mod EntryLaws
+pub mod TestLaws
+pub mod Audit
+pub mod Answers

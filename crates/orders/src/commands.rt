@@ -1,0 +1,180 @@
+// The commands of one thread, over the shared words and its record by value, and what is said of each.
+use log::Done;
+use log::Said;
+use machine::Began;
+use machine::Popped;
+use machine::Request;
+use state::Answer;
+use state::Queue;
+use state::Refusal;
+use state::Thread;
+use state::refusal_number;
+use text::Command;
+use text::Word;
+ghost use mathlib.Core.Path.{_≡_};
+ghost use Prim.Native.Nat.{_<_};
+ghost use Rattle.log.specs.Replay.{placeOf};
+ghost use Rattle.log.specs.Command.{refusedSaid, answerSaid, beganSaid, poppedSaid, begins, pops, stepsOne, runs, threadNumber, orderOf};
+
+fn refused_said(refusal: Refusal) -> Said
+    ensures { λ r. ⌜ r ≡ refusedSaid refusal ⌝ }
+{
+    Said::Numbered(Word::Refused, refusal_number(refusal))
+}
+
+// `still` is what is said of a call that stays open.
+fn answer_said(still: Said, answer: Answer) -> Said
+    ensures { λ r. ⌜ r ≡ answerSaid still answer ⌝ }
+{
+    match answer {
+        Answer::Open => still,
+        Answer::Pushed => Said::Plain(Word::Pushed),
+        Answer::Task(token) => Said::Numbered(Word::Task, token),
+        Answer::Moved => Said::Plain(Word::Moved),
+        Answer::Empty => Said::Plain(Word::Empty),
+        Answer::Retry => Said::Plain(Word::Retry),
+        Answer::Len(n) => Said::Numbered(Word::Len, n),
+        Answer::Yes => Said::Plain(Word::Yes),
+        Answer::No => Said::Plain(Word::No),
+        Answer::Refused(refusal) => refused_said(refusal),
+    }
+}
+
+fn began_said(began: Began) -> Said
+    ensures { λ r. ⌜ r ≡ beganSaid began ⌝ }
+{
+    match began {
+        Began::Open => Said::Silent,
+        Began::Refused(refusal) => refused_said(refusal),
+    }
+}
+
+fn popped_said(popped: Popped) -> Said
+    ensures { λ r. ⌜ r ≡ poppedSaid popped ⌝ }
+{
+    match popped {
+        Popped::Task(token) => Said::Numbered(Word::Task, token),
+        Popped::Nothing => Said::Plain(Word::Nothing),
+        Popped::Refused(refusal) => refused_said(refusal),
+    }
+}
+
+fn begin_one(q: Queue, pool: &[u64], thread: Thread, number: u64, what: Request) -> Done
+    ensures { λ r. ⌜ r ≡ begins q (now (pool .entry)) thread number what .done ⌝ }
+{
+    let begun = begin::begin(q, pool, thread, number, what);
+    let after = begun.thread;
+    let answer = begun.answer;
+    let said = began_said(answer);
+    Done {
+        queue: q,
+        thread: after,
+        said,
+        steps: 0,
+    }
+}
+
+fn pop_one(q: Queue, pool: &[u64], thread: Thread, number: u64) -> Done
+    ensures { λ r. ⌜ r ≡ pops q (now (pool .entry)) thread number .done ⌝ }
+{
+    let popped = begin::pop(q, pool, thread, number);
+    let after = popped.thread;
+    let answer = popped.answer;
+    let said = popped_said(answer);
+    Done {
+        queue: q,
+        thread: after,
+        said,
+        steps: 0,
+    }
+}
+
+// A step that leaves its call open says nothing.
+fn step_one(q: Queue, pool: &mut [u64], thread: Thread, number: u64) -> Done
+    ensures { λ r. ⌜ r ≡ stepsOne q (now (pool .entry)) thread number .done ⌝ }
+    ensures { λ _. ⌜ now (pool .exit) ≡ stepsOne q (now (pool .entry)) thread number .pool ⌝ }
+{
+    let ran = step::step(q, pool, thread, number);
+    let queue = ran.queue;
+    let after = ran.thread;
+    let answer = ran.answer;
+    let said = answer_said(Said::Silent, answer);
+    Done {
+        queue,
+        thread: after,
+        said,
+        steps: ran.steps,
+    }
+}
+
+// A run that leaves its call open has used its budget up, and says so.
+fn run_one(q: Queue, pool: &mut [u64], thread: Thread, number: u64, budget: u64) -> Done
+    ensures { λ r. ⌜ r ≡ runs q (now (pool .entry)) thread number budget .done ⌝ }
+    ensures { λ _. ⌜ now (pool .exit) ≡ runs q (now (pool .entry)) thread number budget .pool ⌝ }
+{
+    let ran = run::run(q, pool, thread, number, budget);
+    let queue = ran.queue;
+    let after = ran.thread;
+    let answer = ran.answer;
+    let said = answer_said(Said::Plain(Word::Open), answer);
+    Done {
+        queue,
+        thread: after,
+        said,
+        steps: ran.steps,
+    }
+}
+
+pub(crate) fn thread_number(command: Command) -> u64
+    ensures { λ r. ⌜ r ≡ threadNumber command ⌝ }
+{
+    match command {
+        Command::Queue(_, _, _) => 0,
+        Command::Push(n, _) => n,
+        Command::Steal(n) => n,
+        Command::Batch(n, _) => n,
+        Command::Take(n, _) => n,
+        Command::Len(n) => n,
+        Command::Empty(n) => n,
+        Command::Pop(n) => n,
+        Command::Step(n) => n,
+        Command::Run(n, _) => n,
+    }
+}
+
+// Where the record of the command's thread stands. A number past the eighth names no record: the first is handed over,
+// and the entry refuses the number.
+pub fn place_of(command: Command) -> usize
+    ensures { λ r. ⌜ r ≡ placeOf (threadNumber command) ⌝ }
+    ensures { λ r. ⌜ r < 8 ⌝ }
+{
+    let n = thread_number(command);
+    if n < 8 {
+        return n as usize;
+    }
+    0
+}
+
+// What a command of a thread does. Nobody asks it of a queue line.
+pub(crate) fn obey(q: Queue, pool: &mut [u64], thread: Thread, command: Command) -> Done
+    ensures { λ r. ⌜ r ≡ orderOf q (now (pool .entry)) thread command .done ⌝ }
+    ensures { λ _. ⌜ now (pool .exit) ≡ orderOf q (now (pool .entry)) thread command .pool ⌝ }
+{
+    match command {
+        Command::Queue(_, _, _) => Done {
+            queue: q,
+            thread,
+            said: Said::Silent,
+            steps: 0,
+        },
+        Command::Push(n, token) => begin_one(q, pool, thread, n, Request::Push(token)),
+        Command::Steal(n) => begin_one(q, pool, thread, n, Request::Steal),
+        Command::Batch(n, limit) => begin_one(q, pool, thread, n, Request::Batch(limit)),
+        Command::Take(n, limit) => begin_one(q, pool, thread, n, Request::Take(limit)),
+        Command::Len(n) => begin_one(q, pool, thread, n, Request::Len),
+        Command::Empty(n) => begin_one(q, pool, thread, n, Request::Empty),
+        Command::Pop(n) => pop_one(q, pool, thread, n),
+        Command::Step(n) => step_one(q, pool, thread, n),
+        Command::Run(n, budget) => run_one(q, pool, thread, n, budget),
+    }
+}

@@ -1,0 +1,6 @@
+// One command of a thread: what it does to the machine, and what is said of it.
+mod commands;
+mod hears;
+
+pub use commands::place_of;
+pub use hears::hear;

@@ -1,0 +1,29 @@
+-- Each public function of `claims` has one outcome at most.
+use mathlib.Core.Path.{refl}
+use Rattle.outcome.specs.One.{One}
+use Rattle.outcome.proofs.Equations.{both}
+use Rattle.claims.proofs as claims
+
+pub s1 : One claims.s1.ended claims.s1.Reads.Learnt
+s1 _ _ _ _ _ _ p q = (both p q, refl)
+
+pub s2 : One claims.s2.ended claims.s2.Reads.Learnt
+s2 _ _ _ _ _ _ p q = (both p q, refl)
+
+pub s3 : One claims.s3.ended claims.s3.Reads.Learnt
+s3 _ _ _ _ _ _ p q = (both p q, refl)
+
+pub s4 : One claims.s4.ended claims.s4.Reads.Learnt
+s4 _ _ _ _ _ _ p q = (both p q, refl)
+
+pub s5 : One claims.s5.ended claims.s5.Reads.Learnt
+s5 _ _ _ _ _ _ p q = (both p q, refl)
+
+pub s6 : One claims.s6.ended claims.s6.Reads.Learnt
+s6 _ _ _ _ _ _ p q = (both p q, refl)
+
+pub s7 : One claims.s7.ended claims.s7.Reads.Learnt
+s7 _ _ _ _ _ _ p q = (both p q, refl)
+
+pub s8 : One claims.s8.ended claims.s8.Reads.Learnt
+s8 _ _ _ _ _ _ p q = (both p q, refl)

@@ -1,2 +1,0 @@
-pub mod Push
-pub mod Laws

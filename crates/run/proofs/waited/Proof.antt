@@ -1,0 +1,12 @@
+use borrow.Author.Needs.{needs}
+use Rattle.run.proofs.waited.Statement.{statement}
+use Rattle.run.proofs.waited.Tie as tie
+
+waited-call-requires : tie.Need-waited-call-requires
+waited-call-requires c κs = search needs
+
+returns : tie.Need-returns
+returns c = simp (c .waited-call .ensures)
+
+pub waited-spec : {M : Type 1} → statement M
+waited-spec = tie.close (tie.spec waited-call-requires returns)

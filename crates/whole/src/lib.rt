@@ -1,0 +1,104 @@
+// The replay as a whole: at its start, at its end, and put together from the fields.
+use index::Index;
+use lines::say_bad;
+use lines::say_end;
+use log::Replay;
+use log::Stage;
+use ring::Flavor;
+use state::Queue;
+use state::Thread;
+ghost use mathlib.Core.Path.{_≡_};
+ghost use Prim.Native.Nat.{_≤_};
+ghost use lib.ListN.{length};
+ghost use lib.Seq.{sets};
+ghost use Rattle.log.specs.Replay.{over, opens, atFirst};
+ghost use Rattle.log.specs.Feed.{ends};
+
+pub fn assembled(
+    queue: Queue,
+    threads: [Thread; 8],
+    line: [u8; 80],
+    held: u64,
+    number: u64,
+    steps: u64,
+    stage: Stage,
+) -> Replay
+    ensures { λ r. ⌜ r ≡ record { queue = queue; threads = threads; line = line; held = held; number = number; steps = steps; stage = stage } ⌝ }
+{
+    Replay {
+        queue,
+        threads,
+        line,
+        held,
+        number,
+        steps,
+        stage,
+    }
+}
+
+// Nothing more is read or run.
+pub fn over(replay: Replay) -> Replay
+    ensures { λ r. ⌜ r ≡ over replay ⌝ }
+{
+    let queue = replay.queue;
+    let threads = replay.threads;
+    let line = replay.line;
+    assembled(
+        queue,
+        threads,
+        line,
+        0,
+        replay.number,
+        replay.steps,
+        Stage::Over,
+    )
+}
+
+// Line 1 has set the queue up: all threads idle, all rings Fifo.
+pub fn opened(replay: Replay, queue: Queue) -> Replay
+    ensures { λ r. ⌜ r ≡ opens replay queue ⌝ }
+{
+    let idle = entry::idle_thread(Flavor::Fifo);
+    let line = replay.line;
+    assembled(queue, [idle; 8], line, 0, 2, 0, Stage::Open)
+}
+
+// Before anything was read.
+pub fn new() -> Replay
+    ensures { λ r. ⌜ r ≡ atFirst ⌝ }
+{
+    let idle = entry::idle_thread(Flavor::Fifo);
+    let queue = Queue {
+        head: Index { raw: 0 },
+        head_block: 0,
+        tail: Index { raw: 0 },
+        tail_block: 0,
+        ceiling: 0,
+        threads: 0,
+        blocks: 0,
+    };
+    assembled(queue, [idle; 8], [0u8; 80], 0, 1, 0, Stage::First)
+}
+
+// The end of the input: the last lines of the output, at the front of a buffer with room for them. Answers how many
+// bytes were written.
+pub fn finish(replay: Replay, out: &mut [u8]) -> usize
+    ensures { λ r. ⌜ now (out .exit) ≡ sets (now (out .entry)) 0 (ends replay (length (now (out .entry)))) ⌝ }
+    ensures { λ r. ⌜ r ≡ length (ends replay (length (now (out .entry)))) ⌝ }
+    ensures { λ r. ⌜ r ≤ length (now (out .entry)) ⌝ }
+{
+    if out.len() < 256 {
+        return 0;
+    }
+    let stage = replay.stage;
+    match stage {
+        Stage::First => say_bad(out, 0, replay.number, replay.steps),
+        Stage::Open => {
+            if replay.held == 0 {
+                return say_end(out, 0, replay.steps);
+            }
+            say_bad(out, 0, replay.number, replay.steps)
+        }
+        Stage::Over => 0,
+    }
+}
