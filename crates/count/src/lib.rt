@@ -1,5 +1,5 @@
 // The loads of a length, L1 to L3, and of an empty, E1 and E2: one function a line, one shared access each.
-// None touches the lent memory (specs/Laws.antt).
+// None touches the lent memory (machine, specs/CountLaws.antt).
 use index::Index;
 use state::Answer;
 use state::Call;

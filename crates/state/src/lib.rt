@@ -1,5 +1,5 @@
 // The types that every layer shares: the Injector's shared words as plain fields, the lines of each call as
-// enums, the thread record, the answers (the BAD_STATE list is specs/List.antt, its code the crate `list`).
+// enums, the thread record, the answers (the BAD_STATE list is specs/List.antt, its code the crates `calls` and `list`).
 use index::Index;
 use memory::MaybeBlock;
 use ring::Ring;
