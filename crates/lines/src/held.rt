@@ -1,4 +1,4 @@
-// The line that is being read.
+// The line that is being read. It is the replay's own array of 80 bytes: that is what each function asks of its length.
 use log::Opening;
 use text::Command;
 use text::Parsed;

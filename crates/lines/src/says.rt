@@ -1,4 +1,5 @@
-// What goes into the lent buffer, and counts that stop at the largest number.
+// What goes into the lent buffer, and counts that stop at the largest number. The room that is asked for is there: the
+// library reads a byte, or ends, only where 256 bytes are free.
 use log::Said;
 ghost use mathlib.Core.Path.{_≡_};
 ghost use Prim.Native.Nat.{_+_, _≤_, min};

@@ -71,6 +71,7 @@ fn open_queue(
 }
 
 // The line that the replay holds is line 1. `read` bytes of the piece are read with it.
+// The library has tested what is asked: as many lent words as the largest pool needs, and 256 free bytes.
 pub fn open_line(replay: Replay, read: usize, pool: &mut [u64], out: &mut [u8]) -> Fed
     requires { ⌜ 4096 ≤ length (now pool) ⌝ }
     requires { ⌜ 256 ≤ length (now out) ⌝ }

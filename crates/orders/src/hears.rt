@@ -15,6 +15,7 @@ ghost use Rattle.text.specs.Print.{Wrote};
 ghost use Rattle.log.specs.Command.{threadNumber, orderOf, saidBytes};
 ghost use Rattle.log.specs.Replay.{most, poolBack};
 
+// A byte is read only where 256 bytes of the buffer are free, so the room that is asked for is there.
 pub fn hear(
     queue: Queue,
     pool: &mut [u64],
