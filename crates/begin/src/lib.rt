@@ -1,14 +1,10 @@
-// The begins of each call, and the owner's ring pop.
-use entry::is_idle;
-use entry::test;
+// The begins of each call.
+use entry::test_idle;
 use machine::Began;
 use machine::Begun;
-use machine::Popped;
 use machine::Request;
-use machine::RingPopped;
 use machine::Tested;
 use memory::MaybeBlock;
-use ring::Pop;
 use state::Call;
 use state::EmptyLine;
 use state::Kind;
@@ -19,7 +15,8 @@ use state::Refusal;
 use state::StealLine;
 use state::Thread;
 ghost use mathlib.Core.Path.{_≡_};
-ghost use Rattle.machine.specs.Entry.{opened, testedAs, notBegun, beginEntry, poppedAs, notPopped, popEntry};
+ghost use Rattle.machine.specs.Entry.{opened, testedAs, notBegun, begun, beginEntry};
+ghost use Rattle.begin.specs.Asked.{testedBegin};
 
 fn open(what: Request) -> Call
     ensures { λ r. ⌜ r ≡ opened what ⌝ }
@@ -56,26 +53,10 @@ fn not_begun(thread: Thread, refusal: Refusal) -> Begun
     }
 }
 
-// Opens a call at its first line; it makes no step.
-pub fn begin(q: Queue, pool: &[u64], thread: Thread, number: u64, what: Request) -> Begun
-    ensures { λ r. ⌜ r ≡ beginEntry q (now (pool .entry)) thread number what ⌝ }
+fn begun(thread: Thread, what: Request) -> Begun
+    ensures { λ r. ⌜ r ≡ begun thread what ⌝ }
 {
-    let tested = test(q, pool, thread, number);
-    if let Tested::Refuses(refusal) = tested {
-        return not_begun(thread, refusal);
-    }
-    let before = thread.call;
-    if !is_idle(before) {
-        return not_begun(thread, Refusal::Busy);
-    }
-    let kind = tested_as(what);
-    if !list::limit_good(kind) {
-        return not_begun(thread, Refusal::NoLimit);
-    }
     let ring = thread.ring;
-    if !list::room_good(kind, ring.count) {
-        return not_begun(thread, Refusal::NoRoom);
-    }
     let taken = thread.taken;
     let call = open(what);
     Begun {
@@ -84,43 +65,32 @@ pub fn begin(q: Queue, pool: &[u64], thread: Thread, number: u64, what: Request)
     }
 }
 
-fn popped_as(pop: Pop) -> Popped
-    ensures { λ r. ⌜ r ≡ poppedAs pop ⌝ }
+// Every refusal of a begin, in order.
+fn test_begin(q: Queue, pool: &[u64], thread: Thread, number: u64, what: Request) -> Tested
+    ensures { λ r. ⌜ r ≡ testedBegin q (now (pool .entry)) thread number what ⌝ }
 {
-    match pop {
-        Pop::Task(token) => Popped::Task(token),
-        Pop::Nothing => Popped::Nothing,
-    }
-}
-
-fn not_popped(thread: Thread, refusal: Refusal) -> RingPopped
-    ensures { λ r. ⌜ r ≡ notPopped thread refusal ⌝ }
-{
-    RingPopped {
-        thread,
-        answer: Popped::Refused(refusal),
-    }
-}
-
-// The owner's pop of its own ring; it is no step.
-pub fn pop(q: Queue, pool: &[u64], thread: Thread, number: u64) -> RingPopped
-    ensures { λ r. ⌜ r ≡ popEntry q (now (pool .entry)) thread number ⌝ }
-{
-    let tested = test(q, pool, thread, number);
+    let tested = test_idle(q, pool, thread, number);
     if let Tested::Refuses(refusal) = tested {
-        return not_popped(thread, refusal);
+        return Tested::Refuses(refusal);
     }
-    let call = thread.call;
-    if !is_idle(call) {
-        return not_popped(thread, Refusal::Busy);
+    let kind = tested_as(what);
+    if !list::limit_good(kind) {
+        return Tested::Refuses(Refusal::NoLimit);
     }
-    let popped = thread.ring.pop();
-    let ring = popped.ring;
-    let taken = thread.taken;
-    let token = popped.token;
-    let answer = popped_as(token);
-    RingPopped {
-        thread: Thread { ring, call, taken },
-        answer,
+    let ring = thread.ring;
+    if !list::room_good(kind, ring.count) {
+        return Tested::Refuses(Refusal::NoRoom);
     }
+    Tested::Passes
+}
+
+// Opens a call at its first line; it makes no step.
+pub fn begin(q: Queue, pool: &[u64], thread: Thread, number: u64, what: Request) -> Begun
+    ensures { λ r. ⌜ r ≡ beginEntry q (now (pool .entry)) thread number what ⌝ }
+{
+    let tested = test_begin(q, pool, thread, number, what);
+    if let Tested::Refuses(refusal) = tested {
+        return not_begun(thread, refusal);
+    }
+    begun(thread, what)
 }

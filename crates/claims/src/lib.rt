@@ -1,4 +1,4 @@
-// S1 to S4 of a steal: load the head, look whether there is something to take, claim it; and S5 to S8 (leave.rt).
+// S1 to S4 of a steal: load the head, look whether there is something to take, claim it.
 use index::BLOCK_CAP;
 use index::Index;
 use machine::ends;
@@ -20,13 +20,6 @@ ghost use Prim.Native.Nat.{_*_, _≤_};
 ghost use Rattle.index.specs.Position.{position};
 ghost use Rattle.state.specs.List.{claimGood};
 ghost use Rattle.machine.specs.Steal as spec;
-
-mod leave;
-
-pub use leave::s5;
-pub use leave::s6;
-pub use leave::s7;
-pub use leave::s8;
 
 pub fn s1(q: Queue, kind: Kind) -> Made
     ensures { λ r. ⌜ r ≡ spec.s1 q kind .made ⌝ }

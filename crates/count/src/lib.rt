@@ -1,6 +1,7 @@
 // The loads of a length, L1 to L3, and of an empty, E1 and E2: one function a line, one shared access each.
 // None touches the lent memory (machine, specs/CountLaws.antt).
 use index::Index;
+use machine::ends;
 use state::Answer;
 use state::Call;
 use state::EmptyLine;
@@ -37,11 +38,8 @@ fn l3(q: Queue, tail: Index, head: Index) -> Made
 {
     let seen = q.tail;
     if seen.raw == tail.raw {
-        return Made {
-            queue: q,
-            call: Call::Idle,
-            answer: Answer::Len(span::length(tail, head)),
-        };
+        let length = span::length(tail, head);
+        return ends(q, Answer::Len(length));
     }
     Made {
         queue: q,
@@ -66,17 +64,9 @@ fn e2(q: Queue, head: Index) -> Made
 {
     let tail = q.tail;
     if span::same_position(head, tail) {
-        return Made {
-            queue: q,
-            call: Call::Idle,
-            answer: Answer::Yes,
-        };
+        return ends(q, Answer::Yes);
     }
-    Made {
-        queue: q,
-        call: Call::Idle,
-        answer: Answer::No,
-    }
+    ends(q, Answer::No)
 }
 
 pub fn length(q: Queue, line: LengthLine) -> Made

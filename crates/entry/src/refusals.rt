@@ -1,4 +1,5 @@
-// BAD_SETUP, BAD_STATE, NO_THREAD: tested first by every entry that is handed a thread.
+// BAD_SETUP, BAD_STATE, NO_THREAD: tested first by every entry that is handed a thread. Then IDLE, by an entry that goes
+// on with a call, or BUSY, by one that wants none open.
 use machine::Tested;
 use state::Call;
 use state::Queue;
@@ -7,6 +8,7 @@ use state::Thread;
 ghost use mathlib.Core.Path.{_≡_};
 ghost use Rattle.machine.specs.Entry.{tested};
 ghost use Rattle.machine.specs.Step.{isIdle};
+ghost use Rattle.entry.specs.Standing.{testedOpen, testedIdle};
 
 pub fn test(q: Queue, pool: &[u64], thread: Thread, number: u64) -> Tested
     ensures { λ r. ⌜ r ≡ tested q (now (pool .entry)) thread number ⌝ }
@@ -26,7 +28,7 @@ pub fn test(q: Queue, pool: &[u64], thread: Thread, number: u64) -> Tested
     Tested::Passes
 }
 
-pub fn is_idle(call: Call) -> bool
+fn is_idle(call: Call) -> bool
     ensures { λ r. ⌜ r ≡ isIdle call ⌝ }
 {
     match call {
@@ -36,4 +38,32 @@ pub fn is_idle(call: Call) -> bool
         Call::Length(_) => false,
         Call::Empty(_) => false,
     }
+}
+
+pub fn test_open(q: Queue, pool: &[u64], thread: Thread, number: u64) -> Tested
+    ensures { λ r. ⌜ r ≡ testedOpen q (now (pool .entry)) thread number ⌝ }
+{
+    let tested = test(q, pool, thread, number);
+    if let Tested::Refuses(refusal) = tested {
+        return Tested::Refuses(refusal);
+    }
+    let call = thread.call;
+    if is_idle(call) {
+        return Tested::Refuses(Refusal::Idle);
+    }
+    Tested::Passes
+}
+
+pub fn test_idle(q: Queue, pool: &[u64], thread: Thread, number: u64) -> Tested
+    ensures { λ r. ⌜ r ≡ testedIdle q (now (pool .entry)) thread number ⌝ }
+{
+    let tested = test(q, pool, thread, number);
+    if let Tested::Refuses(refusal) = tested {
+        return Tested::Refuses(refusal);
+    }
+    let call = thread.call;
+    if !is_idle(call) {
+        return Tested::Refuses(Refusal::Busy);
+    }
+    Tested::Passes
 }

@@ -2,7 +2,6 @@
 // lent words. None asks anything of its caller: bad input is refused by number, and a refused entry changes nothing.
 pub use audit::audit;
 pub use begin::begin;
-pub use begin::pop;
 pub use entry::idle_thread;
 pub use entry::setup;
 pub use machine::Audited;
@@ -14,5 +13,6 @@ pub use machine::Ready;
 pub use machine::Request;
 pub use machine::RingPopped;
 pub use machine::Started;
+pub use pop::pop;
 pub use run::run;
 pub use step::step;

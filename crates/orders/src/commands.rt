@@ -77,7 +77,7 @@ fn begin_one(q: Queue, pool: &[u64], thread: Thread, number: u64, what: Request)
 fn pop_one(q: Queue, pool: &[u64], thread: Thread, number: u64) -> Done
     ensures { λ r. ⌜ r ≡ pops q (now (pool .entry)) thread number .done ⌝ }
 {
-    let popped = begin::pop(q, pool, thread, number);
+    let popped = pop::pop(q, pool, thread, number);
     let after = popped.thread;
     let answer = popped.answer;
     let said = popped_said(answer);

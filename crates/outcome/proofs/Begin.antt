@@ -6,6 +6,3 @@ use Rattle.begin.proofs as begin
 
 pub begin-begin : One begin.begin.ended begin.begin.Reads.Learnt
 begin-begin _ _ _ _ _ _ p q = (both p q, refl)
-
-pub pop : One begin.pop.ended begin.pop.Reads.Learnt
-pop _ _ _ _ _ _ p q = (both p q, refl)

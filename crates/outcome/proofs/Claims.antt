@@ -15,15 +15,3 @@ s3 _ _ _ _ _ _ p q = (both p q, refl)
 
 pub s4 : One claims.s4.ended claims.s4.Reads.Learnt
 s4 _ _ _ _ _ _ p q = (both p q, refl)
-
-pub s5 : One claims.s5.ended claims.s5.Reads.Learnt
-s5 _ _ _ _ _ _ p q = (both p q, refl)
-
-pub s6 : One claims.s6.ended claims.s6.Reads.Learnt
-s6 _ _ _ _ _ _ p q = (both p q, refl)
-
-pub s7 : One claims.s7.ended claims.s7.Reads.Learnt
-s7 _ _ _ _ _ _ p q = (both p q, refl)
-
-pub s8 : One claims.s8.ended claims.s8.Reads.Learnt
-s8 _ _ _ _ _ _ p q = (both p q, refl)

@@ -15,13 +15,16 @@ pub mod Machine
 pub mod Ticket
 pub mod Deliver
 pub mod Claims
-pub mod Handover
+pub mod Leaving
+pub mod Reading
+pub mod Freeing
 pub mod Push
 pub mod Steal
 pub mod Count
 pub mod Entry
 pub mod Audit
 pub mod Begin
+pub mod Pop
 pub mod Advance
 pub mod Step
 pub mod Run

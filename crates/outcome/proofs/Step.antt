@@ -1,11 +1,7 @@
 -- Each public function of `step` has one outcome at most.
-use mathlib.Core.Path.{refl}
 use Rattle.outcome.specs.One.{One}
 use Rattle.outcome.proofs.Equations.{both, first, later}
 use Rattle.step.proofs as step
-
-pub refused : One step.refused.ended step.refused.Reads.Learnt
-refused _ _ _ _ _ _ p q = (both p q, refl)
 
 pub step-step : One step.step.ended step.step.Reads.Learnt
 step-step _ _ _ _ _ _ p q = (both (p .0) (q .0), later (first (both (p .1) (q .1))))

@@ -12,13 +12,11 @@ use Rattle.state.specs.List.{setupGood, sharedGood, nextsGood, recordGood, stat
 use Rattle.state.specs.ListLaws.{both}
 use Rattle.state.specs.declared.Queue.{Queue}
 use Rattle.state.specs.declared.Answer.the-variants.{Open}
-use Rattle.state.specs.declared.Refusal.{Refusal}
-use Rattle.state.specs.declared.Refusal.the-variants.{Idle}
 use Rattle.state.specs.declared.Thread.{Thread}
 use Rattle.state.specs.declared.Stepped.{Stepped}
 use Rattle.wait.specs.declared.Wait.{Wait}
-use Rattle.machine.specs.declared.Tested.the-variants.{Passes, Refuses}
-use Rattle.machine.specs.Entry.{tested, refusedAfter, runEntry}
+use Rattle.machine.specs.declared.Tested.the-variants.{Passes}
+use Rattle.machine.specs.Entry.{tested, runEntry}
 use Rattle.machine.specs.Step.{After, isIdle, isOpen, stepOf, done, counted, runFrom}
 use Rattle.wait.specs.Wait.{waitOf, waits, waitedCall}
 use Rattle.run.proofs.Keeps.{Kept, kept}
@@ -130,17 +128,9 @@ module _ (all : After) (budget used : ℕ) (q : Queue) (m : List ℕ) (t : Threa
           state = both (isOpen (s .answer)) (stateGood (s .queue) n (s .thread)) good .1;
         }
 
--- ---- what run gives back, in the order of its tests
+-- ---- what run gives back, once its tests passed
 
 module _ (q : Queue) (m : List ℕ) (t : Thread) (n budget : ℕ) where
-  pub run-refused : {r : Refusal} → tested q m t n ≡ Refuses r → runEntry q m t n budget ≡ refusedAfter q m t r
-  unfolding runEntry
-  run-refused e = rw e
-
-  pub run-idle : tested q m t n ≡ Passes → isIdle (t .call) ≡ true → runEntry q m t n budget ≡ refusedAfter q m t Idle
-  unfolding runEntry
-  run-idle passes i = rw (passes, i)
-
   pub run-made : tested q m t n ≡ Passes → isIdle (t .call) ≡ false → runEntry q m t n budget ≡ runFrom budget q m t
   unfolding runEntry
   run-made passes i = rw (passes, i)

@@ -1,15 +1,13 @@
 // A run of one thread. On a line where the thread can only wait nothing changes while it alone moves, so the
 // rest of the budget is counted in one go.
 use advance::advance;
-use entry::is_idle;
-use entry::test;
+use entry::refused;
+use entry::test_open;
 use machine::Ran;
 use machine::Tested;
 use state::Answer;
 use state::Queue;
-use state::Refusal;
 use state::Thread;
-use step::refused;
 use wait::Wait;
 ghost use mathlib.Core.Path.{_≡_};
 ghost use mathlib.Core.Bool.{true, _&&_};
@@ -109,13 +107,9 @@ pub fn run(q: Queue, pool: &mut [u64], thread: Thread, number: u64, budget: u64)
     ensures { λ r. ⌜ r ≡ runEntry q (now (pool .entry)) thread number budget .ran ⌝ }
     ensures { λ _. ⌜ now (pool .exit) ≡ runEntry q (now (pool .entry)) thread number budget .pool ⌝ }
 {
-    let tested = test(q, pool, thread, number);
+    let tested = test_open(q, pool, thread, number);
     if let Tested::Refuses(refusal) = tested {
         return refused(q, thread, refusal);
-    }
-    let call = thread.call;
-    if is_idle(call) {
-        return refused(q, thread, Refusal::Idle);
     }
     go(q, pool, thread, budget)
 }

@@ -3,16 +3,16 @@ use claims::s1;
 use claims::s2;
 use claims::s3;
 use claims::s4;
-use claims::s5;
-use claims::s6;
-use claims::s7;
-use claims::s8;
-use handover::s9;
-use handover::s10;
-use handover::s11;
-use handover::s12;
-use handover::s13;
-use handover::s14;
+use freeing::s11;
+use freeing::s12;
+use freeing::s13;
+use freeing::s14;
+use leaving::s5;
+use leaving::s6;
+use leaving::s7;
+use leaving::s8;
+use reading::s9;
+use reading::s10;
 use state::Queue;
 use state::StealLine;
 use state::Stepped;
@@ -35,20 +35,22 @@ pub fn step(q: Queue, pool: &mut [u64], thread: Thread, line: StealLine) -> Step
     ensures { λ r. ⌜ r ≡ spec.steal q (now (pool .entry)) thread line .stepped ⌝ }
     ensures { λ _. ⌜ now (pool .exit) ≡ after (now (pool .entry)) (spec.steal q (now (pool .entry)) thread line .touch) ⌝ }
 {
-    match line {
-        StealLine::S1(kind) => settle(thread, s1(q, kind)),
-        StealLine::S2(kind, head) => settle(thread, s2(q, kind, head)),
-        StealLine::S3(kind, head, block) => settle(thread, s3(q, kind, head, block)),
-        StealLine::S4(kind, claim, next) => settle(thread, s4(q, kind, claim, next)),
-        StealLine::S5(kind, claim) => settle(thread, s5(q, pool, kind, claim)),
-        StealLine::S6(kind, claim, next) => settle(thread, s6(q, pool, kind, claim, next)),
-        StealLine::S7(kind, claim, next, more) => settle(thread, s7(q, kind, claim, next, more)),
-        StealLine::S8(kind, claim, more) => settle(thread, s8(q, kind, claim, more)),
-        StealLine::S9(kind, claim, slot) => settle(thread, s9(q, pool, kind, claim, slot)),
-        StealLine::S10(kind, claim, slot) => s10(q, pool, thread, kind, claim, slot),
-        StealLine::S11(won, claim, slot) => settle(thread, s11(q, pool, won, claim, slot)),
-        StealLine::S12(won, block, slot) => settle(thread, s12(q, pool, won, block, slot)),
-        StealLine::S13(won, block, slot) => settle(thread, s13(q, pool, won, block, slot)),
-        StealLine::S14(won, block) => settle(thread, s14(q, pool, won, block)),
-    }
+    // one call after the match: a call in every arm costs the proof twice the time
+    let landed = match line {
+        StealLine::S1(kind) => s1(q, kind),
+        StealLine::S2(kind, head) => s2(q, kind, head),
+        StealLine::S3(kind, head, block) => s3(q, kind, head, block),
+        StealLine::S4(kind, claim, next) => s4(q, kind, claim, next),
+        StealLine::S5(kind, claim) => s5(q, pool, kind, claim),
+        StealLine::S6(kind, claim, next) => s6(q, pool, kind, claim, next),
+        StealLine::S7(kind, claim, next, more) => s7(q, kind, claim, next, more),
+        StealLine::S8(kind, claim, more) => s8(q, kind, claim, more),
+        StealLine::S9(kind, claim, slot) => s9(q, pool, kind, claim, slot),
+        StealLine::S10(kind, claim, slot) => return s10(q, pool, thread, kind, claim, slot),
+        StealLine::S11(won, claim, slot) => s11(q, pool, won, claim, slot),
+        StealLine::S12(won, block, slot) => s12(q, pool, won, block, slot),
+        StealLine::S13(won, block, slot) => s13(q, pool, won, block, slot),
+        StealLine::S14(won, block) => s14(q, pool, won, block),
+    };
+    settle(thread, landed)
 }

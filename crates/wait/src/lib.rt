@@ -35,15 +35,7 @@ fn push_wait(q: Queue, line: PushLine) -> Wait
             let t = q.tail;
             turns_at(t, Call::Push(PushLine::P2(token, t, held)))
         }
-        PushLine::P2(_, _, _) => Wait::No,
-        PushLine::P3(_, _, _) => Wait::No,
-        PushLine::P4(_, _, _, _) => Wait::No,
-        PushLine::P5(_, _, _, _) => Wait::No,
-        PushLine::P6(_, _, _, _) => Wait::No,
-        PushLine::P7(_, _, _, _) => Wait::No,
-        PushLine::P8(_, _, _, _) => Wait::No,
-        PushLine::P9(_, _, _, _) => Wait::No,
-        PushLine::P10(_, _) => Wait::No,
+        _ => Wait::No,
     }
 }
 
@@ -73,19 +65,9 @@ fn steal_wait(q: Queue, pool: &[u64], line: StealLine) -> Wait
             let h = q.head;
             turns_at(h, Call::Steal(StealLine::S2(kind, h)))
         }
-        StealLine::S2(_, _) => Wait::No,
-        StealLine::S3(_, _, _) => Wait::No,
-        StealLine::S4(_, _, _) => Wait::No,
         StealLine::S5(_, claim) => none_waits(memory::next(pool, claim.block)),
-        StealLine::S6(_, _, _) => Wait::No,
-        StealLine::S7(_, _, _, _) => Wait::No,
-        StealLine::S8(_, _, _) => Wait::No,
         StealLine::S9(_, claim, slot) => unwritten_waits(memory::state(pool, claim.block, slot)),
-        StealLine::S10(_, _, _) => Wait::No,
-        StealLine::S11(_, _, _) => Wait::No,
-        StealLine::S12(_, _, _) => Wait::No,
-        StealLine::S13(_, _, _) => Wait::No,
-        StealLine::S14(_, _) => Wait::No,
+        _ => Wait::No,
     }
 }
 

@@ -1,4 +1,15 @@
+use Prim.Native.Nat.{ℕ}
+use mathlib.Core.Path.{_≡_, refl}
+use mathlib.Core.List.{List, [], _∷_}
+use types.Run.{OneOf, miss}
+use denote.Enum.Declared.{tagOf}
 use borrow.Author.Needs.{needs}
+use Rattle.state.proofs.PushLine.{the-type}
+use Rattle.state.specs.declared.Queue.{Queue}
+use Rattle.state.specs.declared.PushLine.{PushLine}
+use Rattle.state.specs.declared.PushLine.the-variants.{P1, P2, P3, P4, P5, P6, P7, P8, P9, P10}
+use Rattle.wait.specs.declared.Wait.the-variants.{No}
+use Rattle.wait.specs.Wait.{pushWait}
 use Rattle.wait.proofs.push_wait.Statement.{statement}
 use Rattle.wait.proofs.push_wait.Tie as tie
 
@@ -8,85 +19,27 @@ enum-known-line c = search needs
 turns-at-requires : tie.Need-turns-at-requires
 turns-at-requires c κs = search needs
 
-enum-told : tie.Need-enum-told
-enum-told c = search needs
-
-enum-told-2 : tie.Need-enum-told-2
-enum-told-2 c = search needs
-
-enum-told-3 : tie.Need-enum-told-3
-enum-told-3 c = search needs
-
-enum-told-4 : tie.Need-enum-told-4
-enum-told-4 c = search needs
-
-enum-told-5 : tie.Need-enum-told-5
-enum-told-5 c = search needs
-
-enum-told-6 : tie.Need-enum-told-6
-enum-told-6 c = search needs
-
-enum-told-7 : tie.Need-enum-told-7
-enum-told-7 c = search needs
-
-enum-told-8 : tie.Need-enum-told-8
-enum-told-8 c = search needs
-
-enum-told-9 : tie.Need-enum-told-9
-enum-told-9 c = search needs
-
 returns : tie.Need-returns
 returns c = simp (c .before .before .before .line .given .1) (c .turns-at .ensures)
 
+-- the variants of the last arm, by their numbers
+abbrev others : List ℕ
+others = 1 ∷ 2 ∷ 3 ∷ 4 ∷ 5 ∷ 6 ∷ 7 ∷ 8 ∷ 9 ∷ []
+
+goes : (q : Queue) (line : PushLine) → OneOf others (tagOf the-type line) → No ≡ pushWait q line
+goes q (P1 token held) e = absurd (miss others 0 tt e)
+goes q (P2 token t held) e = refl
+goes q (P3 token t b) e = refl
+goes q (P4 token t b held) e = refl
+goes q (P5 token t b x) e = refl
+goes q (P6 token t b x) e = refl
+goes q (P7 token t b x) e = refl
+goes q (P8 token t b held) e = refl
+goes q (P9 token t b held) e = refl
+goes q (P10 x spent) e = refl
+
 returns-2 : tie.Need-returns-2
-returns-2 c = search needs
-
-returns-3 : tie.Need-returns-3
-returns-3 c = search needs
-
-returns-4 : tie.Need-returns-4
-returns-4 c = search needs
-
-returns-5 : tie.Need-returns-5
-returns-5 c = search needs
-
-returns-6 : tie.Need-returns-6
-returns-6 c = search needs
-
-returns-7 : tie.Need-returns-7
-returns-7 c = search needs
-
-returns-8 : tie.Need-returns-8
-returns-8 c = search needs
-
-returns-9 : tie.Need-returns-9
-returns-9 c = search needs
-
-returns-10 : tie.Need-returns-10
-returns-10 c = search needs
+returns-2 c = let a = c .before .args in goes (a .q) (a .line) (c .match .keys2)
 
 pub push-wait-spec : {M : Type 1} → statement M
-push-wait-spec =
-    tie.close
-    (tie.spec
-    enum-known-line
-    turns-at-requires
-    enum-told
-    enum-told-2
-    enum-told-3
-    enum-told-4
-    enum-told-5
-    enum-told-6
-    enum-told-7
-    enum-told-8
-    enum-told-9
-    returns
-    returns-2
-    returns-3
-    returns-4
-    returns-5
-    returns-6
-    returns-7
-    returns-8
-    returns-9
-    returns-10)
+push-wait-spec = tie.close (tie.spec enum-known-line turns-at-requires returns returns-2)

@@ -1,6 +1,15 @@
-use mathlib.Core.Path.{ap, _∙_}
+use Prim.Native.Nat.{ℕ}
+use mathlib.Core.Path.{_≡_, refl, ap, _∙_}
+use mathlib.Core.List.{List, [], _∷_}
+use types.Run.{OneOf, miss}
+use denote.Enum.Declared.{tagOf}
 use borrow.Author.Needs.{needs}
-use Rattle.wait.specs.Wait.{noneWaits, unwrittenWaits}
+use Rattle.state.proofs.StealLine.{the-type}
+use Rattle.state.specs.declared.Queue.{Queue}
+use Rattle.state.specs.declared.StealLine.{StealLine}
+use Rattle.state.specs.declared.StealLine.the-variants.{S1, S2, S3, S4, S5, S6, S7, S8, S9, S10, S11, S12, S13, S14}
+use Rattle.wait.specs.declared.Wait.the-variants.{No}
+use Rattle.wait.specs.Wait.{noneWaits, unwrittenWaits, stealWait}
 use Rattle.wait.proofs.steal_wait.Statement.{statement}
 use Rattle.wait.proofs.steal_wait.Tie as tie
 
@@ -9,15 +18,6 @@ enum-known-line c = search needs
 
 turns-at-requires : tie.Need-turns-at-requires
 turns-at-requires c κs = search needs
-
-enum-told : tie.Need-enum-told
-enum-told c = search needs
-
-enum-told-2 : tie.Need-enum-told-2
-enum-told-2 c = search needs
-
-enum-told-3 : tie.Need-enum-told-3
-enum-told-3 c = search needs
 
 enum-known-line-2 : tie.Need-enum-known-line-2
 enum-known-line-2 c = search needs
@@ -28,15 +28,6 @@ next-requires c κs = search needs
 none-waits-requires : tie.Need-none-waits-requires
 none-waits-requires c κs = search needs
 
-enum-told-4 : tie.Need-enum-told-4
-enum-told-4 c = search needs
-
-enum-told-5 : tie.Need-enum-told-5
-enum-told-5 c = search needs
-
-enum-told-6 : tie.Need-enum-told-6
-enum-told-6 c = search needs
-
 enum-known-line-3 : tie.Need-enum-known-line-3
 enum-known-line-3 c = search needs
 
@@ -46,62 +37,37 @@ state-requires c κs = search needs
 unwritten-waits-requires : tie.Need-unwritten-waits-requires
 unwritten-waits-requires c κs = search needs
 
-enum-told-7 : tie.Need-enum-told-7
-enum-told-7 c = search needs
-
-enum-told-8 : tie.Need-enum-told-8
-enum-told-8 c = search needs
-
-enum-told-9 : tie.Need-enum-told-9
-enum-told-9 c = search needs
-
-enum-told-10 : tie.Need-enum-told-10
-enum-told-10 c = search needs
-
-enum-told-11 : tie.Need-enum-told-11
-enum-told-11 c = search needs
-
 returns : tie.Need-returns
 returns c = simp (c .before .before .before .line .given .1) (c .turns-at .ensures)
 
 returns-2 : tie.Need-returns-2
-returns-2 c = simp (c .enum-told .given .1)
+returns-2 c = simp (c .before .before .before .line2 .given .1) (c .none-waits .ensures ∙ ap noneWaits (c .before .next .ensures))
 
 returns-3 : tie.Need-returns-3
-returns-3 c = simp (c .enum-told2 .given .1)
+returns-3 c = simp (c .before .before .before .line3 .given .1) (c .unwritten-waits .ensures ∙ ap unwrittenWaits (c .before .state .ensures))
+
+-- the variants of the last arm, by their numbers
+abbrev others : List ℕ
+others = 1 ∷ 2 ∷ 3 ∷ 5 ∷ 6 ∷ 7 ∷ 9 ∷ 10 ∷ 11 ∷ 12 ∷ 13 ∷ []
+
+goes : (q : Queue) (m : List ℕ) (line : StealLine) → OneOf others (tagOf the-type line) → No ≡ stealWait q m line
+goes q m (S1 k) e = absurd (miss others 0 tt e)
+goes q m (S2 k h) e = refl
+goes q m (S3 k h b) e = refl
+goes q m (S4 k c more) e = refl
+goes q m (S5 k c) e = absurd (miss others 4 tt e)
+goes q m (S6 k c x) e = refl
+goes q m (S7 k c x more) e = refl
+goes q m (S8 k c more) e = refl
+goes q m (S9 k c slot) e = absurd (miss others 8 tt e)
+goes q m (S10 k c slot) e = refl
+goes q m (S11 won c slot) e = refl
+goes q m (S12 won b slot) e = refl
+goes q m (S13 won b slot) e = refl
+goes q m (S14 won b) e = refl
 
 returns-4 : tie.Need-returns-4
-returns-4 c = simp (c .enum-told3 .given .1)
-
-returns-5 : tie.Need-returns-5
-returns-5 c = simp (c .before .before .before .line2 .given .1) (c .none-waits .ensures ∙ ap noneWaits (c .before .next .ensures))
-
-returns-6 : tie.Need-returns-6
-returns-6 c = simp (c .enum-told4 .given .1)
-
-returns-7 : tie.Need-returns-7
-returns-7 c = simp (c .enum-told5 .given .1)
-
-returns-8 : tie.Need-returns-8
-returns-8 c = simp (c .enum-told6 .given .1)
-
-returns-9 : tie.Need-returns-9
-returns-9 c = simp (c .before .before .before .line3 .given .1) (c .unwritten-waits .ensures ∙ ap unwrittenWaits (c .before .state .ensures))
-
-returns-10 : tie.Need-returns-10
-returns-10 c = simp (c .enum-told7 .given .1)
-
-returns-11 : tie.Need-returns-11
-returns-11 c = simp (c .enum-told8 .given .1)
-
-returns-12 : tie.Need-returns-12
-returns-12 c = simp (c .enum-told9 .given .1)
-
-returns-13 : tie.Need-returns-13
-returns-13 c = simp (c .enum-told10 .given .1)
-
-returns-14 : tie.Need-returns-14
-returns-14 c = simp (c .enum-told11 .given .1)
+returns-4 c = let a = c .before .before .args in goes (a .q) (a .pool .now) (a .line) (c .match .keys4)
 
 pub steal-wait-spec : {M : Type 1} → statement M
 steal-wait-spec =
@@ -109,34 +75,13 @@ steal-wait-spec =
     (tie.spec
     enum-known-line
     turns-at-requires
-    enum-told
-    enum-told-2
-    enum-told-3
     enum-known-line-2
     next-requires
     none-waits-requires
-    enum-told-4
-    enum-told-5
-    enum-told-6
     enum-known-line-3
     state-requires
     unwritten-waits-requires
-    enum-told-7
-    enum-told-8
-    enum-told-9
-    enum-told-10
-    enum-told-11
     returns
     returns-2
     returns-3
-    returns-4
-    returns-5
-    returns-6
-    returns-7
-    returns-8
-    returns-9
-    returns-10
-    returns-11
-    returns-12
-    returns-13
-    returns-14)
+    returns-4)
