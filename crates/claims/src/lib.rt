@@ -1,13 +1,13 @@
 // S1 to S4 of a steal: load the head, look whether there is something to take, claim it.
+use batch::batch_advance;
+use batch::to_block_end;
 use index::BLOCK_CAP;
 use index::Index;
 use machine::ends;
 use machine::steals::first;
 use machine::steals::past;
 use machine::steals::to;
-use span::batch_advance;
 use span::same_position;
-use span::to_block_end;
 use state::Answer;
 use state::Claim;
 use state::Kind;

@@ -25,7 +25,7 @@ pub fn p9(q: Queue, pool: &mut [u64], token: u64, t: Index, b: u64, held: MaybeB
     ensures { λ r. ⌜ r ≡ spec.p9 q (now (pool .entry)) token t b held .made ⌝ }
     ensures { λ _. ⌜ now (pool .exit) ≡ after (now (pool .entry)) (spec.p9 q (now (pool .entry)) token t b held .touch) ⌝ }
 {
-    memory::fetch_or(pool, b, t.offset(), Mark::Write);
+    marks::fetch_or(pool, b, t.offset(), Mark::Write);
     match held {
         MaybeBlock::Nothing => ends(q, Answer::Pushed),
         MaybeBlock::Block(x) => to(q, PushLine::P10(x, false)),

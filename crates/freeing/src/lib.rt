@@ -33,8 +33,8 @@ pub fn s11(q: Queue, pool: &mut [u64], won: Won, claim: Claim, slot: u64) -> Mad
     ensures { λ r. ⌜ r ≡ spec.s11 q (now (pool .entry)) won claim slot .made ⌝ }
     ensures { λ _. ⌜ now (pool .exit) ≡ after (now (pool .entry)) (spec.s11 q (now (pool .entry)) won claim slot .touch) ⌝ }
 {
-    let before = memory::fetch_or(pool, claim.block, slot, Mark::Read);
-    if memory::has(before, Mark::Destroy) {
+    let before = marks::fetch_or(pool, claim.block, slot, Mark::Read);
+    if marks::has(before, Mark::Destroy) {
         let lowest = first(claim);
         return to(q, walk_below(won, claim.block, lowest));
     }
@@ -48,7 +48,7 @@ pub fn s12(q: Queue, pool: &[u64], won: Won, block: u64, slot: u64) -> Made
     ensures { λ r. ⌜ r ≡ spec.s12 q (now (pool .entry)) won block slot .made ⌝ }
 {
     let state = memory::state(pool, block, slot);
-    if memory::has(state, Mark::Read) {
+    if marks::has(state, Mark::Read) {
         return to(q, walk_below(won, block, slot));
     }
     to(q, StealLine::S13(won, block, slot))
@@ -58,8 +58,8 @@ pub fn s13(q: Queue, pool: &mut [u64], won: Won, block: u64, slot: u64) -> Made
     ensures { λ r. ⌜ r ≡ spec.s13 q (now (pool .entry)) won block slot .made ⌝ }
     ensures { λ _. ⌜ now (pool .exit) ≡ after (now (pool .entry)) (spec.s13 q (now (pool .entry)) won block slot .touch) ⌝ }
 {
-    let before = memory::fetch_or(pool, block, slot, Mark::Destroy);
-    if memory::has(before, Mark::Read) {
+    let before = marks::fetch_or(pool, block, slot, Mark::Destroy);
+    if marks::has(before, Mark::Read) {
         return to(q, walk_below(won, block, slot));
     }
     ends(q, answer_of(won))

@@ -2,8 +2,6 @@
 // lent words. None asks anything of its caller: bad input is refused by number, and a refused entry changes nothing.
 pub use audit::audit;
 pub use begin::begin;
-pub use entry::idle_thread;
-pub use entry::setup;
 pub use machine::Audited;
 pub use machine::Began;
 pub use machine::Begun;
@@ -15,4 +13,6 @@ pub use machine::RingPopped;
 pub use machine::Started;
 pub use pop::pop;
 pub use run::run;
+pub use start::idle_thread;
+pub use start::setup;
 pub use step::step;

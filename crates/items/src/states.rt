@@ -1,4 +1,5 @@
 // The BAD_STATE list: each item broken alone, and beside it a state that just passes.
+use crate::entries::steps;
 use index::Index;
 use memory::MaybeBlock;
 use ring::Flavor;
@@ -34,13 +35,7 @@ fn judge(label: &[u8], q: Queue, pool: &mut [u64], call: Call, count: u64) {
         call,
         taken: [0u64; 63],
     };
-    let ran = injector::step(q, pool, thread, 0);
-    say::text(b"  ");
-    say::text(label);
-    say::text(b": ");
-    let answer = ran.answer;
-    say::answer(answer);
-    say::text(b"\n");
+    steps(label, q, pool, thread);
 }
 
 fn call_at(label: &[u8], call: Call) {
@@ -259,23 +254,22 @@ pub(crate) fn claims() {
     slots();
 }
 
+fn length_at(label: &[u8], line: LengthLine) {
+    call_at(label, Call::Length(line));
+}
+
+fn empty_at(label: &[u8], line: EmptyLine) {
+    call_at(label, Call::Empty(line));
+}
+
 pub(crate) fn others() {
     line(b"length and empty");
-    call_at(
-        b"L2 past the tail",
-        Call::Length(LengthLine::L2(Index { raw: 258 })),
-    );
-    call_at(
+    length_at(b"L2 past the tail", LengthLine::L2(Index { raw: 258 }));
+    length_at(
         b"L3 head past the tail",
-        Call::Length(LengthLine::L3(Index { raw: 256 }, Index { raw: 258 })),
+        LengthLine::L3(Index { raw: 256 }, Index { raw: 258 }),
     );
-    call_at(
-        b"L3",
-        Call::Length(LengthLine::L3(Index { raw: 256 }, Index { raw: 20 })),
-    );
-    call_at(
-        b"E2 past the tail",
-        Call::Empty(EmptyLine::E2(Index { raw: 258 })),
-    );
-    call_at(b"E2", Call::Empty(EmptyLine::E2(Index { raw: 256 })));
+    length_at(b"L3", LengthLine::L3(Index { raw: 256 }, Index { raw: 20 }));
+    empty_at(b"E2 past the tail", EmptyLine::E2(Index { raw: 258 }));
+    empty_at(b"E2", EmptyLine::E2(Index { raw: 256 }));
 }

@@ -1,24 +1,19 @@
 // The replay of a log as a library: text goes in, in pieces of any size, and what happened comes out.
+use later::feed_open;
 use lines::hold;
-use lines::later_line;
-use lines::saturating;
-use lines::say_bad;
 pub use log::Fed;
 pub use log::Replay;
 pub use log::Stage;
 use opening::open_line;
-use orders::hear;
-use orders::place_of;
-use text::Parsed;
 use whole::assembled;
 pub use whole::finish;
 pub use whole::new;
 ghost use mathlib.Core.Path.{_≡_};
 ghost use mathlib.Core.Bool.{false};
-ghost use Prim.Native.Nat.{_≤_};
-ghost use lib.ListN.{length};
+ghost use Prim.Native.Nat.{_≤_, _<_};
+ghost use lib.ListN.{length, getD};
 ghost use lib.Seq.{sets};
-ghost use Rattle.log.specs.declared.Stage.the-variants.{First, Open};
+ghost use Rattle.log.specs.declared.Stage.the-variants.{First};
 ghost use Rattle.log.specs.Feed.{reads, fed, isFirst, Came};
 
 // No queue uses more of the lent words.
@@ -37,47 +32,6 @@ fn gave(replay: Replay, read: usize, written: usize) -> Fed
     }
 }
 
-// The lines after line 1. The fields stay in locals, so that a line moves one record and not the machine.
-fn feed_open(start: Fed, pool: &mut [u64], piece: &[u8], out: &mut [u8]) -> Fed
-    requires { ⌜ (start .replay .stage ≡ Open) × (start .read ≤ length (now piece)) × (start .written ≤ length (now out)) ⌝ }
-    ensures { λ r. ⌜ Came (now (piece .entry)) (start .replay) (now (pool .entry)) (start .read) (now (out .entry)) (start .written) r (now (pool .exit)) (now (out .exit)) ⌝ }
-{
-    let replay = start.replay;
-    let mut queue = replay.queue;
-    let mut threads = replay.threads;
-    let mut line = replay.line;
-    let mut held = replay.held;
-    let mut number = replay.number;
-    let mut steps = replay.steps;
-    let mut read = start.read;
-    let mut written = start.written;
-    while read < piece.len() && ROOM <= out.len() - written {
-        let byte = piece[read];
-        read += 1;
-        if byte != 10 {
-            held = hold(&mut line, held, byte);
-            continue;
-        }
-        let Parsed::Good(command) = later_line(&line, held) else {
-            written = say_bad(out, written, number, steps);
-            let replay = assembled(queue, threads, line, 0, number, steps, Stage::Over);
-            return gave(replay, piece.len(), written);
-        };
-        let place = place_of(command);
-        let thread = threads[place];
-        let heard = hear(queue, pool, thread, command, number, steps, out, written);
-        let after = heard.thread;
-        threads[place] = after;
-        queue = heard.queue;
-        steps = heard.steps;
-        written = heard.written;
-        number = saturating(number, 1);
-        held = 0;
-    }
-    let replay = assembled(queue, threads, line, held, number, steps, Stage::Open);
-    gave(replay, read, written)
-}
-
 // From a place of the piece on, with line 1 read.
 fn go_on(fed: Fed, pool: &mut [u64], piece: &[u8], out: &mut [u8]) -> Fed
     requires { ⌜ (isFirst (fed .replay .stage) ≡ false) × (fed .read ≤ length (now piece)) × (fed .written ≤ length (now out)) ⌝ }
@@ -87,9 +41,48 @@ fn go_on(fed: Fed, pool: &mut [u64], piece: &[u8], out: &mut [u8]) -> Fed
     let stage = replay.stage;
     match stage {
         Stage::First => fed,
-        Stage::Open => feed_open(fed, pool, piece, out),
+        Stage::Open => feed_open(replay, fed.read, fed.written, pool, piece, out),
         Stage::Over => gave(replay, piece.len(), fed.written),
     }
+}
+
+// With as much of line 1 as was read.
+fn holding(replay: Replay, line: [u8; 80], held: u64) -> Replay
+    ensures { λ r. ⌜ r ≡ record { queue = replay .queue; threads = replay .threads; line = line; held = held; number = replay .number; steps = replay .steps; stage = replay .stage } ⌝ }
+{
+    let queue = replay.queue;
+    let threads = replay.threads;
+    let stage = replay.stage;
+    assembled(
+        queue,
+        threads,
+        line,
+        held,
+        replay.number,
+        replay.steps,
+        stage,
+    )
+}
+
+// Line 1 is whole: it opens the queue or ends the replay, and what follows it in the piece is fed.
+fn first_whole(
+    replay: Replay,
+    line: [u8; 80],
+    held: u64,
+    read: usize,
+    pool: &mut [u64],
+    piece: &[u8],
+    out: &mut [u8],
+) -> Fed
+    requires { ⌜ replay .stage ≡ First ⌝ }
+    requires { ⌜ 4096 ≤ length (now pool) ⌝ }
+    requires { ⌜ 256 ≤ length (now out) ⌝ }
+    requires { ⌜ (read < length (now piece)) × (getD (now piece) read 0 ≡ 10) ⌝ }
+    ensures { λ r. ⌜ Came (now (piece .entry)) (record { queue = replay .queue; threads = replay .threads; line = line; held = held; number = replay .number; steps = replay .steps; stage = First }) (now (pool .entry)) read (now (out .entry)) 0 r (now (pool .exit)) (now (out .exit)) ⌝ }
+{
+    let next = read + 1;
+    let first = open_line(holding(replay, line, held), next, pool, out);
+    go_on(first, pool, piece, out)
 }
 
 // Line 1, and what follows it.
@@ -101,25 +94,18 @@ fn feed_first(replay: Replay, pool: &mut [u64], piece: &[u8], out: &mut [u8]) ->
     if out.len() < ROOM {
         return gave(replay, 0, 0);
     }
-    let queue = replay.queue;
-    let threads = replay.threads;
     let mut line = replay.line;
     let mut held = replay.held;
-    let number = replay.number;
-    let steps = replay.steps;
     let mut read = 0;
     while read < piece.len() {
         let byte = piece[read];
-        read += 1;
         if byte == 10 {
-            let whole = assembled(queue, threads, line, held, number, steps, Stage::First);
-            let fed = open_line(whole, read, pool, out);
-            return go_on(fed, pool, piece, out);
+            return first_whole(replay, line, held, read, pool, piece, out);
         }
         held = hold(&mut line, held, byte);
+        read += 1;
     }
-    let replay = assembled(queue, threads, line, held, number, steps, Stage::First);
-    gave(replay, read, 0)
+    gave(holding(replay, line, held), read, 0)
 }
 
 // Reads bytes from the front of the piece while the buffer has room, and writes what they make at its front. What is
@@ -139,7 +125,7 @@ pub fn feed(replay: Replay, pool: &mut [u64], piece: &[u8], out: &mut [u8]) -> F
     let stage = replay.stage;
     match stage {
         Stage::First => feed_first(replay, pool, piece, out),
-        Stage::Open => feed_open(gave(replay, 0, 0), pool, piece, out),
+        Stage::Open => feed_open(replay, 0, 0, pool, piece, out),
         Stage::Over => gave(replay, piece.len(), 0),
     }
 }

@@ -96,6 +96,19 @@ threadNumber (Command.Run n budget) = n
 abbrev pub idle : Queue → List ℕ → Thread → Ordered
 idle q m t = record { done = record { queue = q; thread = t; said = Silent; steps = 0 }; pool = m }
 
+-- what a command that begins a call asks for
+abbrev pub requestOf : Command → Request
+requestOf (Command.Queue threads blocks ceiling) = Request.Empty
+requestOf (Command.Push n token) = Request.Push token
+requestOf (Command.Steal n) = Request.Steal
+requestOf (Command.Batch n limit) = Request.Batch limit
+requestOf (Command.Take n limit) = Request.Take limit
+requestOf (Command.Len n) = Request.Len
+requestOf (Command.Empty n) = Request.Empty
+requestOf (Command.Pop n) = Request.Empty
+requestOf (Command.Step n) = Request.Empty
+requestOf (Command.Run n budget) = Request.Empty
+
 abbrev pub orderOf : Queue → List ℕ → Thread → Command → Ordered
 orderOf q m t (Command.Queue threads blocks ceiling) = idle q m t
 orderOf q m t (Command.Push n token) = begins q m t n (Request.Push token)

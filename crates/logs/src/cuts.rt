@@ -1,4 +1,5 @@
 // A log fed in pieces: no cut may change a byte of what comes out.
+use journal::Fed;
 use journal::Replay;
 
 // A longer log is cut at its first bytes only, or the gate would wait for it.
@@ -12,22 +13,10 @@ struct Reached {
     whole: bool,
 }
 
-fn feed_at(reached: Reached, pool: &mut [u64], piece: &[u8], out: &mut [u8]) -> Reached {
-    let replay = reached.replay;
-    let at = reached.at;
-    let all = out.len();
-    if all < at {
-        return Reached {
-            replay,
-            at,
-            whole: false,
-        };
-    }
-    let room = all - at;
-    let fed = journal::feed(replay, pool, piece, &mut out[at..]);
+// After a feed into the `all` bytes of the buffer from `at` on, of a piece of `len` bytes.
+fn moved(fed: Fed, at: usize, all: usize, len: usize, whole: bool) -> Reached {
     let replay = fed.replay;
-    let written = fed.written;
-    if room < written || fed.read < piece.len() {
+    if all < at || all - at < fed.written || fed.read < len {
         return Reached {
             replay,
             at,
@@ -36,9 +25,21 @@ fn feed_at(reached: Reached, pool: &mut [u64], piece: &[u8], out: &mut [u8]) -> 
     }
     Reached {
         replay,
-        at: all - (room - written),
-        whole: reached.whole,
+        at: all - (all - at - fed.written),
+        whole,
     }
+}
+
+// A place past the buffer is told at the end (`ends_as`).
+fn feed_at(reached: Reached, pool: &mut [u64], piece: &[u8], out: &mut [u8]) -> Reached {
+    let at = reached.at;
+    let all = out.len();
+    if all < at {
+        return reached;
+    }
+    let replay = reached.replay;
+    let fed = journal::feed(replay, pool, piece, &mut out[at..]);
+    moved(fed, at, all, piece.len(), reached.whole)
 }
 
 fn same_front(out: &[u8], end: usize, expected: &[u8]) -> bool {

@@ -3,13 +3,13 @@
 ghost use mathlib.Core.Path.{_≡_};
 ghost use Prim.Native.Nat.{ℕ, _+_, _*_, _<_, _≤_, _^_};
 ghost use lib.ListN.{getD, set};
-ghost use Rattle.memory.specs.Layout.{token, state, next, isFree, or, has};
-ghost use Rattle.memory.specs.Touch.{after, writesToken, writesState, links, frees};
+ghost use Rattle.memory.specs.Layout.{token, state, next, isFree};
+ghost use Rattle.memory.specs.Touch.{after, writesToken, links, frees};
 ghost use Rattle.memory.specs.Pool.{poolLen, tableLen};
 
 pub const BLOCK_WORDS: u64 = 128;
 // No lent memory has FAR words or more, and so none has block number FAR_BLOCK: an address of less never wraps.
-const FAR: u64 = 0x1000_0000_0000_0000;
+pub const FAR: u64 = 0x1000_0000_0000_0000;
 
 const FAR_BLOCK: u64 = FAR / BLOCK_WORDS;
 
@@ -86,57 +86,6 @@ pub fn next(pool: &[u64], block: u64) -> MaybeBlock
         return MaybeBlock::Nothing;
     }
     MaybeBlock::Block(word - 1)
-}
-
-// The Rust's `fetch_or` on a slot's state: the value before is the answer.
-pub fn fetch_or(pool: &mut [u64], block: u64, slot: u64, mark: Mark) -> u64
-    ensures { λ r. ⌜ r ≡ state (now (pool .entry)) block slot ⌝ }
-    ensures { λ _. ⌜ now (pool .exit) ≡ after (now (pool .entry)) (writesState block slot (or (state (now (pool .entry)) block slot) mark)) ⌝ }
-{
-    let before = state(pool, block, slot);
-    if FAR <= slot {
-        return before;
-    }
-    let word = with_mark(before, mark);
-    store(pool, block, 64 + slot, word);
-    before
-}
-
-// A word whose bit is clear is at least that bit below the largest number, so the sum fits.
-fn with_mark(word: u64, mark: Mark) -> u64
-    ensures { λ r. ⌜ r ≡ or word mark ⌝ }
-{
-    match mark {
-        Mark::Write => {
-            if word / 1 % 2 == 1 {
-                return word;
-            }
-            word + 1
-        }
-        Mark::Read => {
-            if word / 2 % 2 == 1 {
-                return word;
-            }
-            word + 2
-        }
-        Mark::Destroy => {
-            if word / 4 % 2 == 1 {
-                return word;
-            }
-            word + 4
-        }
-    }
-}
-
-// Whether a state that was seen has the bit.
-pub fn has(word: u64, mark: Mark) -> bool
-    ensures { λ r. ⌜ r ≡ has mark word ⌝ }
-{
-    match mark {
-        Mark::Write => word / 1 % 2 == 1,
-        Mark::Read => word / 2 % 2 == 1,
-        Mark::Destroy => word / 4 % 2 == 1,
-    }
 }
 
 // `next` is stored as one more. The sum must fit, and a block's number is below the pool's size, far below the largest.

@@ -60,7 +60,7 @@ fn open_queue(
         };
     }
     let used = words(blocks, pool.len());
-    let started = entry::setup(threads, blocks, ceiling, &mut pool[..used]);
+    let started = start::setup(threads, blocks, ceiling, &mut pool[..used]);
     let queue = started.queue;
     let replay = opened(replay, queue);
     Fed {

@@ -4,6 +4,7 @@ use log::Said;
 use machine::Began;
 use machine::Popped;
 use machine::Request;
+use places::thread_number;
 use state::Answer;
 use state::Queue;
 use state::Refusal;
@@ -12,9 +13,7 @@ use state::refusal_number;
 use text::Command;
 use text::Word;
 ghost use mathlib.Core.Path.{_≡_};
-ghost use Prim.Native.Nat.{_<_};
-ghost use Rattle.log.specs.Replay.{placeOf};
-ghost use Rattle.log.specs.Command.{refusedSaid, answerSaid, beganSaid, poppedSaid, begins, pops, stepsOne, runs, threadNumber, orderOf};
+ghost use Rattle.log.specs.Command.{refusedSaid, answerSaid, beganSaid, poppedSaid, begins, pops, stepsOne, runs, requestOf, orderOf};
 
 fn refused_said(refusal: Refusal) -> Said
     ensures { λ r. ⌜ r ≡ refusedSaid refusal ⌝ }
@@ -125,34 +124,18 @@ fn run_one(q: Queue, pool: &mut [u64], thread: Thread, number: u64, budget: u64)
     }
 }
 
-pub(crate) fn thread_number(command: Command) -> u64
-    ensures { λ r. ⌜ r ≡ threadNumber command ⌝ }
+// What a command that begins a call asks for.
+fn request_of(command: Command) -> Request
+    ensures { λ r. ⌜ r ≡ requestOf command ⌝ }
 {
     match command {
-        Command::Queue(_, _, _) => 0,
-        Command::Push(n, _) => n,
-        Command::Steal(n) => n,
-        Command::Batch(n, _) => n,
-        Command::Take(n, _) => n,
-        Command::Len(n) => n,
-        Command::Empty(n) => n,
-        Command::Pop(n) => n,
-        Command::Step(n) => n,
-        Command::Run(n, _) => n,
+        Command::Push(_, token) => Request::Push(token),
+        Command::Steal(_) => Request::Steal,
+        Command::Batch(_, limit) => Request::Batch(limit),
+        Command::Take(_, limit) => Request::Take(limit),
+        Command::Len(_) => Request::Len,
+        _ => Request::Empty,
     }
-}
-
-// Where the record of the command's thread stands. A number past the eighth names no record: the first is handed over,
-// and the entry refuses the number.
-pub fn place_of(command: Command) -> usize
-    ensures { λ r. ⌜ r ≡ placeOf (threadNumber command) ⌝ }
-    ensures { λ r. ⌜ r < 8 ⌝ }
-{
-    let n = thread_number(command);
-    if n < 8 {
-        return n as usize;
-    }
-    0
 }
 
 // What a command of a thread does. Nobody asks it of a queue line.
@@ -167,14 +150,9 @@ pub(crate) fn obey(q: Queue, pool: &mut [u64], thread: Thread, command: Command)
             said: Said::Silent,
             steps: 0,
         },
-        Command::Push(n, token) => begin_one(q, pool, thread, n, Request::Push(token)),
-        Command::Steal(n) => begin_one(q, pool, thread, n, Request::Steal),
-        Command::Batch(n, limit) => begin_one(q, pool, thread, n, Request::Batch(limit)),
-        Command::Take(n, limit) => begin_one(q, pool, thread, n, Request::Take(limit)),
-        Command::Len(n) => begin_one(q, pool, thread, n, Request::Len),
-        Command::Empty(n) => begin_one(q, pool, thread, n, Request::Empty),
         Command::Pop(n) => pop_one(q, pool, thread, n),
         Command::Step(n) => step_one(q, pool, thread, n),
         Command::Run(n, budget) => run_one(q, pool, thread, n, budget),
+        _ => begin_one(q, pool, thread, thread_number(command), request_of(command)),
     }
 }

@@ -1,10 +1,10 @@
 // One line after line 1, well-formed: a command of one thread, over its record.
 use crate::commands::obey;
-use crate::commands::thread_number;
 use lines::saturating;
 use lines::say;
 use lines::words;
 use log::Heard;
+use places::thread_number;
 use state::Queue;
 use state::Thread;
 use text::Command;

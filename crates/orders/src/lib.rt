@@ -2,5 +2,4 @@
 mod commands;
 mod hears;
 
-pub use commands::place_of;
 pub use hears::hear;

@@ -1,7 +1,9 @@
 pub mod Equations
 pub mod Index
 pub mod Span
+pub mod Batch
 pub mod Memory
+pub mod Marks
 pub mod Supply
 pub mod Ring
 pub mod Decimal
@@ -21,7 +23,9 @@ pub mod Freeing
 pub mod Push
 pub mod Steal
 pub mod Count
+pub mod Start
 pub mod Entry
+pub mod Ran
 pub mod Audit
 pub mod Begin
 pub mod Pop
@@ -29,9 +33,12 @@ pub mod Advance
 pub mod Step
 pub mod Run
 pub mod Lines
+pub mod Places
 pub mod Orders
 pub mod Whole
 pub mod Opening
 pub mod Journal
+pub mod Later
+pub mod Rows
 pub mod Table
 pub mod Say

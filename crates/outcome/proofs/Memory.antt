@@ -16,12 +16,6 @@ state _ _ _ _ _ _ p q = (both p q, refl)
 pub next : One memory.next.ended memory.next.Reads.Learnt
 next _ _ _ _ _ _ p q = (both p q, refl)
 
-pub fetch-or : One memory.fetch_or.ended memory.fetch_or.Reads.Learnt
-fetch-or _ _ _ _ _ _ p q = (both (p .0) (q .0), first (both (p .1) (q .1)))
-
-pub has : One memory.has.ended memory.has.Reads.Learnt
-has _ _ _ _ _ _ p q = (both p q, refl)
-
 pub set-next : One memory.set_next.ended memory.set_next.Reads.Learnt
 set-next _ _ _ _ _ _ p q = (refl, first (both p q))
 

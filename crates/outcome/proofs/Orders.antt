@@ -1,6 +1,6 @@
 -- Each public function of `orders` has one outcome at most.
 use Prim.Native.Nat.{ℕ}
-use mathlib.Core.Path.{_≡_, refl}
+use mathlib.Core.Path.{_≡_}
 use Rattle.outcome.specs.One.{One}
 use Rattle.outcome.proofs.Equations.{both, pair, first, later}
 use Rattle.state.specs.declared.Queue.{Queue}
@@ -11,9 +11,6 @@ use Rattle.orders.proofs as orders
 whole : {a b : Queue} {t u : Thread} {m n k l : ℕ} → a ≡ b → t ≡ u → m ≡ n → k ≡ l
     → _≡_ {A = Heard} (record { queue = a; thread = t; steps = m; written = k }) (record { queue = b; thread = u; steps = n; written = l })
 whole p q r s = cc
-
-pub place-of : One orders.place_of.ended orders.place_of.Reads.Learnt
-place-of _ _ _ _ _ _ p q = (both (p .0) (q .0), refl)
 
 pub hear : One orders.hear.ended orders.hear.Reads.Learnt
 hear _ _ _ _ _ _ p q = (

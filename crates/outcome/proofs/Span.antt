@@ -7,11 +7,5 @@ use Rattle.span.proofs as span
 pub same-position : One span.same_position.ended span.same_position.Reads.Learnt
 same-position _ _ _ _ _ _ p q = (both p q, refl)
 
-pub to-block-end : One span.to_block_end.ended span.to_block_end.Reads.Learnt
-to-block-end _ _ _ _ _ _ p q = (both p q, refl)
-
-pub batch-advance : One span.batch_advance.ended span.batch_advance.Reads.Learnt
-batch-advance _ _ _ _ _ _ p q = (both p q, refl)
-
 pub length : One span.length.ended span.length.Reads.Learnt
 length _ _ _ _ _ _ p q = (both p q, refl)

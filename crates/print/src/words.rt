@@ -1,7 +1,8 @@
 // Bytes, words and numbers, written into a lent buffer from a place on. Each function answers the place behind what it wrote.
 use text::Word;
 ghost use Prim.Native.Nat.{_+_, _≤_};
-ghost use lib.ListN.{length};
+ghost use mathlib.Core.Path.{_≡_};
+ghost use lib.ListN.{length, take, getD};
 ghost use Rattle.text.specs.Number.{digits};
 ghost use Rattle.text.specs.Print.{Wrote, wordBytes};
 
@@ -40,25 +41,36 @@ pub fn put_number(out: &mut [u8], at: usize, n: u64) -> usize
     put_digits(out, at, n)
 }
 
+// The letters of a word, and in the last place how many they are: a value for each word, so that the bytes are put once.
+fn spelt(word: Word) -> [u8; 8]
+    ensures { λ r. ⌜ take (getD r 7 0) r ≡ wordBytes word ⌝ }
+    ensures { λ r. ⌜ length (take (getD r 7 0) r) ≡ getD r 7 0 ⌝ }
+    ensures { λ r. ⌜ getD r 7 0 ≤ 7 ⌝ }
+{
+    match word {
+        Word::Pushed => [b'p', b'u', b's', b'h', b'e', b'd', 0, 6],
+        Word::Task => [b't', b'a', b's', b'k', 0, 0, 0, 4],
+        Word::Moved => [b'm', b'o', b'v', b'e', b'd', 0, 0, 5],
+        Word::Empty => [b'e', b'm', b'p', b't', b'y', 0, 0, 5],
+        Word::Retry => [b'r', b'e', b't', b'r', b'y', 0, 0, 5],
+        Word::Len => [b'l', b'e', b'n', 0, 0, 0, 0, 3],
+        Word::Yes => [b'y', b'e', b's', 0, 0, 0, 0, 3],
+        Word::No => [b'n', b'o', 0, 0, 0, 0, 0, 2],
+        Word::Open => [b'o', b'p', b'e', b'n', 0, 0, 0, 4],
+        Word::Nothing => [b'n', b'o', b'n', b'e', 0, 0, 0, 4],
+        Word::Refused => [b'r', b'e', b'f', b'u', b's', b'e', b'd', 7],
+        Word::Bad => [b'b', b'a', b'd', 0, 0, 0, 0, 3],
+        Word::End => [b'e', b'n', b'd', 0, 0, 0, 0, 3],
+        Word::Queue => [b'q', b'u', b'e', b'u', b'e', 0, 0, 5],
+    }
+}
+
 pub fn put_word(out: &mut [u8], at: usize, word: Word) -> usize
     // no word has more than 7 letters
     requires { ⌜ at + 7 ≤ length (now out) ⌝ }
     ensures { λ r. ⌜ Wrote (now (out .entry)) at (wordBytes word) (now (out .exit)) r ⌝ }
 {
-    match word {
-        Word::Pushed => put_bytes(out, at, b"pushed"),
-        Word::Task => put_bytes(out, at, b"task"),
-        Word::Moved => put_bytes(out, at, b"moved"),
-        Word::Empty => put_bytes(out, at, b"empty"),
-        Word::Retry => put_bytes(out, at, b"retry"),
-        Word::Len => put_bytes(out, at, b"len"),
-        Word::Yes => put_bytes(out, at, b"yes"),
-        Word::No => put_bytes(out, at, b"no"),
-        Word::Open => put_bytes(out, at, b"open"),
-        Word::Nothing => put_bytes(out, at, b"none"),
-        Word::Refused => put_bytes(out, at, b"refused"),
-        Word::Bad => put_bytes(out, at, b"bad"),
-        Word::End => put_bytes(out, at, b"end"),
-        Word::Queue => put_bytes(out, at, b"queue"),
-    }
+    let letters = spelt(word);
+    let count = letters[7] as usize;
+    put_bytes(out, at, &letters[..count])
 }

@@ -25,7 +25,7 @@ pub fn s9(q: Queue, pool: &[u64], kind: Kind, claim: Claim, slot: u64) -> Made
     ensures { λ r. ⌜ r ≡ spec.s9 q (now (pool .entry)) kind claim slot .made ⌝ }
 {
     let state = memory::state(pool, claim.block, slot);
-    if memory::has(state, Mark::Write) {
+    if marks::has(state, Mark::Write) {
         return to(q, StealLine::S10(kind, claim, slot));
     }
     to(q, StealLine::S9(kind, claim, slot))

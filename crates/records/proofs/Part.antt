@@ -20,7 +20,8 @@ use denote.Index.{row}
 use Rattle.tables.proofs.Prelude.{Ok, array-data, nothing}
 use Rattle.tables.proofs.Walk.{Data, AllOk, struct-data}
 use Rattle.tables.proofs.Fields.{made-of}
-use Rattle.table.proofs.Plain.{thread-data, table-step-data}
+use Rattle.rows.proofs.Plain.{thread-data}
+use Rattle.table.proofs.Plain.{table-step-data}
 use Rattle.state.specs.declared.Thread as Thread-spec
 use Rattle.state.proofs.Thread as Thread
 use Rattle.state.proofs.Thread.Laws as Thread′

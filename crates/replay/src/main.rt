@@ -2,6 +2,7 @@
 use journal::Replay;
 use libc::STDIN_FILENO;
 use libc::STDOUT_FILENO;
+ghost use Prim.Native.Nat.{_<_};
 
 // The words of the largest pool: 32 blocks of 128.
 const POOL_WORDS: usize = 4096;
@@ -18,6 +19,18 @@ fn write(out: &[u8], written: usize) {
     }
 }
 
+// Where to feed from next: at the end where nothing was read.
+fn behind(at: usize, read: usize, len: usize) -> usize
+    requires { ⌜ at < len ⌝ }
+    ensures { λ r. ⌜ at < r ⌝ }
+{
+    let left = len - at;
+    if read == 0 || left < read {
+        return len;
+    }
+    len - (left - read)
+}
+
 // One feed leaves bytes unread where the buffer ran out of room: they are fed again, into the buffer written out.
 fn feed_all(replay: Replay, pool: &mut [u64], piece: &[u8], out: &mut [u8]) -> Replay {
     let mut now = replay;
@@ -25,13 +38,8 @@ fn feed_all(replay: Replay, pool: &mut [u64], piece: &[u8], out: &mut [u8]) -> R
     while at < piece.len() {
         let fed = journal::feed(now, pool, &piece[at..], out);
         write(out, fed.written);
-        let read = fed.read;
+        at = behind(at, fed.read, piece.len());
         now = fed.replay;
-        let left = piece.len() - at;
-        if read == 0 || left < read {
-            return now;
-        }
-        at = piece.len() - (left - read);
     }
     now
 }

@@ -1,10 +1,10 @@
 // A run of one thread. On a line where the thread can only wait nothing changes while it alone moves, so the
 // rest of the budget is counted in one go.
 use advance::advance;
-use entry::refused;
 use entry::test_open;
 use machine::Ran;
 use machine::Tested;
+use ran::refused;
 use state::Answer;
 use state::Queue;
 use state::Thread;

@@ -1,4 +1,4 @@
-// What lies between two indices: whether it is nothing, how many tokens it holds, and how much of it a batch claims.
+// What lies between two indices: whether it is nothing, and how many tokens it holds.
 use index::BLOCK_CAP;
 use index::Index;
 use index::LAP;
@@ -6,50 +6,13 @@ ghost use mathlib.Core.Path.{_≡_};
 ghost use Prim.Native.Nat.{_<_, _^_};
 ghost use lib.Dec.{eqb};
 ghost use Rattle.index.specs.Position.{position};
-ghost use Rattle.index.specs.Length.{len, movedOn, batchAdvance, toBlockEnd};
+ghost use Rattle.index.specs.Length.{len, movedOn};
 
 // Whether two indices name one place: the last test of `is_empty`, and of EMPTY at S3.
 pub fn same_position(a: Index, b: Index) -> bool
     ensures { λ r. ⌜ r ≡ eqb (position (a .raw)) (position (b .raw)) ⌝ }
 {
     a.raw / 2 == b.raw / 2
-}
-
-// What a batch takes where the rest of the block is full: HAS_NEXT is set, or the tail is laps ahead.
-pub fn to_block_end(head: Index, limit: u64) -> u64
-    ensures { λ r. ⌜ r ≡ toBlockEnd (position (head .raw)) limit ⌝ }
-{
-    let offset = head.offset();
-    if offset < BLOCK_CAP {
-        let room = BLOCK_CAP - offset;
-        if room < limit {
-            return room;
-        }
-        return limit;
-    }
-    0
-}
-
-// How many positions a batch claims from `head`, with the tail as it was loaded.
-pub fn batch_advance(head: Index, tail: Index, limit: u64) -> u64
-    ensures { λ r. ⌜ r ≡ batchAdvance (head .raw) (tail .raw) limit ⌝ }
-{
-    if head.has_next() {
-        return to_block_end(head, limit);
-    }
-    if head.lap() != tail.lap() {
-        return to_block_end(head, limit);
-    }
-    let h = head.position();
-    let t = tail.position();
-    if t < h {
-        return 0;
-    }
-    let half = (t - h + 1) / 2;
-    if half < limit {
-        return half;
-    }
-    limit
 }
 
 // A place past a block's slots is the next lap's first. Half of any 64-bit number meets the bound, so

@@ -1,10 +1,10 @@
 // One step of a thread's open call, with its refusals.
 use advance::advance;
-use entry::counted;
-use entry::refused;
 use entry::test_open;
 use machine::Ran;
 use machine::Tested;
+use ran::counted;
+use ran::refused;
 use state::Queue;
 use state::Thread;
 ghost use mathlib.Core.Path.{_≡_};

@@ -1,10 +1,6 @@
 -- The records that the walks read, write, pass and return as plain data (`tables`' `Data`).
 use Rattle.tables.proofs.Walk.{Data, Ok, struct-data, enum-data}
 use Rattle.tables.proofs.Fields.{variant-made}
-use Rattle.state.proofs.Queue as Queue
-use Rattle.state.proofs.Queue.Laws as Queue′
-use Rattle.state.proofs.Thread as Thread
-use Rattle.state.proofs.Thread.Laws as Thread′
 use Rattle.state.proofs.Refusal as Refusal
 use Rattle.state.proofs.Refusal.Laws as Refusal′
 use Rattle.state.specs.declared.Refusal.the-variants.{BadSetup, BadState, NoThread}
@@ -12,12 +8,6 @@ use Rattle.machine.proofs.Ran as Ran
 use Rattle.machine.proofs.Ran.Laws as Ran′
 use Rattle.table.proofs.TableStep as TableStep
 use Rattle.table.proofs.TableStep.Laws as TableStep′
-
-abbrev pub queue-data : Data Queue.the-row Queue′.mir
-queue-data = struct-data Queue.the-type Queue′.the-laws Queue′.the-plain Queue′.the-copy Queue′.lowers
-
-abbrev pub thread-data : Data Thread.the-row Thread′.mir
-thread-data = struct-data Thread.the-type Thread′.the-laws Thread′.the-plain Thread′.the-copy Thread′.lowers
 
 abbrev pub refusal-data : Data Refusal.the-row Refusal′.mir
 refusal-data = enum-data Refusal.the-type tt Refusal′.the-laws Refusal′.the-plain Refusal′.the-copy Refusal′.lowers

@@ -1,12 +1,10 @@
 -- The step entry over a lent table of thread records, with document 01's refusals in their order. A refused entry changes nothing.
-use Prim.Native.Nat.{ℕ, _+_}
-use mathlib.Core.Bool.{Bool, true, _&&_, cond}
-use mathlib.Core.List.{List, [], _∷_}
-use lib.Dec.{ltb, eqb}
-use lib.ListN.{length, getD, set}
-use Rattle.memory.specs.Pool.{tableLen}
-use Rattle.ring.specs.declared.Flavor.the-variants.{Fifo}
-use Rattle.state.specs.List.{setupGood, sharedGood, nextsGood, recordGood}
+use Prim.Native.Nat.{ℕ}
+use mathlib.Core.Bool.{_&&_, cond}
+use mathlib.Core.List.{List}
+use lib.Dec.{ltb}
+use lib.ListN.{length, set}
+use Rattle.state.specs.List.{sharedGood, nextsGood, recordGood}
 use Rattle.state.specs.declared.Queue.{Queue}
 use Rattle.state.specs.declared.Thread.{Thread}
 use Rattle.state.specs.declared.Answer.the-variants.{Refused}
@@ -14,24 +12,8 @@ use Rattle.state.specs.declared.Refusal.{Refusal}
 use Rattle.state.specs.declared.Refusal.the-variants.{BadSetup, BadState, NoThread, Idle}
 use Rattle.machine.specs.declared.Ran.{Ran}
 use Rattle.machine.specs.Step.{After, once, stepOf, isIdle}
-use Rattle.machine.specs.Entry.{idleThread}
+use Rattle.rows.specs.Rows.{sizesGood, allGood, recordAt}
 use Rattle.table.specs.declared.TableStep.{TableStep}
-
--- 1: the counts, and both lent parts as long as published
-unfoldable pub sizesGood : Queue → ℕ → ℕ → Bool
-sizesGood q records words = setupGood q words && eqb records (tableLen (q .threads) (q .blocks))
-
--- 2: the list over every record, the one that is stepped and all others
-unfoldable pub allGood : Queue → List Thread → Bool
-allGood q [] = true
-allGood q (t ∷ ts) = recordGood q t && allGood q ts
-
--- the record with number n; past the table's end, where nobody asks, a thread as at setup
-unfoldable pub blank : Thread
-blank = idleThread Fifo
-
-abbrev pub recordAt : List Thread → ℕ → Thread
-recordAt ts n = getD ts n blank
 
 -- what the entry gives back, and both lent parts at its exit
 pub record TableAfter : Type 0 where

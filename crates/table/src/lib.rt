@@ -1,55 +1,22 @@
 // The thin step entry over a lent table of thread records: it takes one record out, steps it by value and stores it
 // back. It asks nothing of its caller, and a refused entry changes neither the table nor the pool.
 use machine::Ran;
+use rows::all_good;
+use rows::has_thread;
+use rows::shared_good;
+use rows::sizes_good;
 use state::Answer;
 use state::Queue;
 use state::Refusal;
 use state::Thread;
 ghost use mathlib.Core.Path.{_≡_};
-ghost use mathlib.Core.Bool.{_&&_};
-ghost use lib.Dec.{ltb};
-ghost use lib.ListN.{drop};
-ghost use Rattle.state.specs.List.{sharedGood, nextsGood};
-ghost use Rattle.table.specs.Table.{sizesGood, allGood, given, refusal, tableEntry};
+ghost use Rattle.table.specs.Table.{given, refusal, tableEntry};
 
 // What a step of the table gives back; `steps` is the number of table lines made.
 pub struct TableStep {
     pub queue: Queue,
     pub answer: Answer,
     pub steps: u64,
-}
-
-fn sizes_good(q: Queue, records: u64, words: u64) -> bool
-    ensures { λ r. ⌜ r ≡ sizesGood q records words ⌝ }
-{
-    let threads = q.threads;
-    let blocks = q.blocks;
-    list::setup_good(q, words) && records == memory::table_len(threads, blocks)
-}
-
-fn shared_good(q: Queue, pool: &[u64]) -> bool
-    ensures { λ r. ⌜ r ≡ (sharedGood q && nextsGood (now (pool .entry)) (q .blocks) (q .blocks)) ⌝ }
-{
-    list::shared_good(q) && list::nexts_good(pool, q.blocks)
-}
-
-// Every record from the i-th on. The entry has tested the table's length, so the depth is at most 8.
-fn all_good(q: Queue, table: &[Thread], i: usize) -> bool
-    ensures { λ r. ⌜ r ≡ allGood q (drop i (now (table .entry))) ⌝ }
-{
-    if table.len() <= i {
-        return true;
-    }
-    if list::record_good(q, table[i]) {
-        return all_good(q, table, i + 1);
-    }
-    false
-}
-
-fn has_thread(q: Queue, number: u64) -> bool
-    ensures { λ r. ⌜ r ≡ ltb number (q .threads) ⌝ }
-{
-    number < q.threads
 }
 
 fn record_of(ran: Ran) -> Thread

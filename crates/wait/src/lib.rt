@@ -51,7 +51,7 @@ fn none_waits(next: MaybeBlock) -> Wait
 fn unwritten_waits(state: u64) -> Wait
     ensures { λ r. ⌜ r ≡ unwrittenWaits state ⌝ }
 {
-    if memory::has(state, Mark::Write) {
+    if marks::has(state, Mark::Write) {
         return Wait::No;
     }
     Wait::Stays

@@ -58,7 +58,7 @@ pub fn over(replay: Replay) -> Replay
 pub fn opened(replay: Replay, queue: Queue) -> Replay
     ensures { λ r. ⌜ r ≡ opens replay queue ⌝ }
 {
-    let idle = entry::idle_thread(Flavor::Fifo);
+    let idle = start::idle_thread(Flavor::Fifo);
     let line = replay.line;
     assembled(queue, [idle; 8], line, 0, 2, 0, Stage::Open)
 }
@@ -67,7 +67,7 @@ pub fn opened(replay: Replay, queue: Queue) -> Replay
 pub fn new() -> Replay
     ensures { λ r. ⌜ r ≡ atFirst ⌝ }
 {
-    let idle = entry::idle_thread(Flavor::Fifo);
+    let idle = start::idle_thread(Flavor::Fifo);
     let queue = Queue {
         head: Index { raw: 0 },
         head_block: 0,

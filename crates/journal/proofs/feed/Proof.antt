@@ -25,17 +25,14 @@ feed-first-requires c κs = search needs
 enum-told-2 : tie.Need-enum-told-2
 enum-told-2 c = search needs
 
-gave-requires-2 : tie.Need-gave-requires-2
-gave-requires-2 c κs = search needs
-
 feed-open-requires : tie.Need-feed-open-requires
-feed-open-requires c κs = rw (c .before .before .gave2 .ensures) (c .before .before .before .enum-told2 .given .1, search needs, search needs)
+feed-open-requires c κs = search needs
 
 enum-told-3 : tie.Need-enum-told-3
 enum-told-3 c = search needs
 
-gave-requires-3 : tie.Need-gave-requires-3
-gave-requires-3 c κs = search needs
+gave-requires-2 : tie.Need-gave-requires-2
+gave-requires-2 c κs = search needs
 
 same-length : tie.Need-same-length
 same-length c = search needs
@@ -56,14 +53,14 @@ same-length-4 c = search needs
 
 returns-3 : tie.Need-returns-3
 returns-3 c =
-    let a = c .before .before .before .before .before .before .before .before .before .before .before .before .before .before .args in
-    fed-came (a .replay) (now (a .pool)) (now (a .piece)) (now (a .out)) _ _ _ (c .before .before .before .before .before .before .before .before .before .before .if1 .left) (rw (c .before .before .before .before .before .before .before .gave2 .ensures) at (c .before .before .before .before .feed-open .ensures))
+    let a = c .before .before .before .before .before .before .before .before .before .before .before .before .before .args in
+    fed-came (a .replay) (now (a .pool)) (now (a .piece)) (now (a .out)) _ _ _ (c .before .before .before .before .before .before .before .before .before .if1 .left) (c .before .before .before .before .feed-open .ensures)
 
 returns-4 : tie.Need-returns-4
 returns-4 c =
     let a = c .before .before .before .before .before .before .before .args in
     let over = outcome-over (now (a .piece)) (a .replay) (now (a .pool)) 0 (now (a .out)) 0 (omega arith) (c .before .enum-told3 .given .1) in
-    rw (c .gave3 .ensures)
+    rw (c .gave2 .ensures)
     (fed-came (a .replay) (now (a .pool)) (now (a .piece)) (now (a .out)) _ _ _ (c .before .before .before .if1 .left) (record { comes = over; inside = search needs; fits = search needs }))
 
 pub feed-spec : {M : Type 1} → statement M
@@ -75,10 +72,9 @@ feed-spec =
     enum-told
     feed-first-requires
     enum-told-2
-    gave-requires-2
     feed-open-requires
     enum-told-3
-    gave-requires-3
+    gave-requires-2
     same-length
     same-length-2
     returns-2

@@ -30,8 +30,14 @@ feed-requires c κs = search needs
 write-requires : tie.Need-write-requires Inv-loop μ-loop
 write-requires c κs = search needs
 
-sub-left : tie.Need-sub-left Inv-loop μ-loop
-sub-left c = omega arith
+behind-requires : tie.Need-behind-requires Inv-loop μ-loop
+behind-requires c κs = search needs
+
+loop-less : tie.Need-loop-less Inv-loop μ-loop
+loop-less c = omega arith
+
+loop-again : tie.Need-loop-again Inv-loop μ-loop
+loop-again c = search needs
 
 same-length : tie.Need-same-length Inv-loop μ-loop
 same-length c = search needs
@@ -41,27 +47,6 @@ same-length-2 c = search needs
 
 returns : tie.Need-returns Inv-loop μ-loop
 returns c = search needs
-
-sub-at : tie.Need-sub-at Inv-loop μ-loop
-sub-at c = omega arith
-
-sub-at-2 : tie.Need-sub-at-2 Inv-loop μ-loop
-sub-at-2 c = omega arith
-
-loop-less : tie.Need-loop-less Inv-loop μ-loop
-loop-less c = omega arith
-
-loop-again : tie.Need-loop-again Inv-loop μ-loop
-loop-again c = search needs
-
-same-length-3 : tie.Need-same-length-3 Inv-loop μ-loop
-same-length-3 c = search needs
-
-same-length-4 : tie.Need-same-length-4 Inv-loop μ-loop
-same-length-4 c = search needs
-
-returns-2 : tie.Need-returns-2 Inv-loop μ-loop
-returns-2 c = search needs
 
 pub feed-all-spec : {M : Type 1} → statement M
 feed-all-spec =
@@ -75,14 +60,9 @@ feed-all-spec =
     part-feed-end
     feed-requires
     write-requires
-    sub-left
-    same-length
-    same-length-2
-    returns
-    sub-at
-    sub-at-2
+    behind-requires
     loop-less
     loop-again
-    same-length-3
-    same-length-4
-    returns-2)
+    same-length
+    same-length-2
+    returns)

@@ -19,29 +19,31 @@ use Rattle.state.specs.Tests.{told-true, told-false}
 use Rattle.machine.specs.declared.Ran.{Ran}
 use Rattle.machine.specs.Entry.{stepEntry}
 use Rattle.table.specs.declared.TableStep.{TableStep}
-use Rattle.table.specs.Table.{TableAfter, sizesGood, allGood, blank, refusal, refusedTable, given, tableEntry}
+use Rattle.rows.specs.Rows.{sizesGood, allGood, blank}
+use Rattle.table.specs.Table.{TableAfter, refusal, refusedTable, given, tableEntry}
 use Rattle.table.proofs.Laws.{bad-setup, bad-shared, bad-record, no-thread, within, made}
-use Rattle.table.proofs.Plain.{queue-data, thread-data, refusal-data, ran-data, table-step-data, bad-setup-ok, bad-state-ok, no-thread-ok}
-use Rattle.table.proofs.sizes_good as sizes-good
-use Rattle.table.proofs.sizes_good.Symbol as sizes-good-def
-use Rattle.table.proofs.sizes_good.Symbol.{name as #table·sizes-good}
-use Rattle.table.proofs.sizes_good.Met as sizes-good-thm
+use Rattle.rows.proofs.Plain.{queue-data, thread-data}
+use Rattle.table.proofs.Plain.{refusal-data, ran-data, table-step-data, bad-setup-ok, bad-state-ok, no-thread-ok}
+use Rattle.rows.proofs.sizes_good as sizes-good
+use Rattle.rows.proofs.sizes_good.Symbol as sizes-good-def
+use Rattle.rows.proofs.sizes_good.Symbol.{name as #rows·sizes-good}
+use Rattle.rows.proofs.sizes_good.Met as sizes-good-thm
 use Rattle.table.proofs.refused as refused
 use Rattle.table.proofs.refused.Symbol as refused-def
 use Rattle.table.proofs.refused.Symbol.{name as #table·refused}
 use Rattle.table.proofs.refused.Met as refused-thm
-use Rattle.table.proofs.shared_good as shared-good
-use Rattle.table.proofs.shared_good.Symbol as shared-good-def
-use Rattle.table.proofs.shared_good.Symbol.{name as #table·shared-good}
-use Rattle.table.proofs.shared_good.Met as shared-good-thm
-use Rattle.table.proofs.all_good as all-good
-use Rattle.table.proofs.all_good.Symbol as all-good-def
-use Rattle.table.proofs.all_good.Symbol.{name as #table·all-good}
-use Rattle.table.proofs.all_good.Met as all-good-thm
-use Rattle.table.proofs.has_thread as has-thread
-use Rattle.table.proofs.has_thread.Symbol as has-thread-def
-use Rattle.table.proofs.has_thread.Symbol.{name as #table·has-thread}
-use Rattle.table.proofs.has_thread.Met as has-thread-thm
+use Rattle.rows.proofs.shared_good as shared-good
+use Rattle.rows.proofs.shared_good.Symbol as shared-good-def
+use Rattle.rows.proofs.shared_good.Symbol.{name as #rows·shared-good}
+use Rattle.rows.proofs.shared_good.Met as shared-good-thm
+use Rattle.rows.proofs.all_good as all-good
+use Rattle.rows.proofs.all_good.Symbol as all-good-def
+use Rattle.rows.proofs.all_good.Symbol.{name as #rows·all-good}
+use Rattle.rows.proofs.all_good.Met as all-good-thm
+use Rattle.rows.proofs.has_thread as has-thread
+use Rattle.rows.proofs.has_thread.Symbol as has-thread-def
+use Rattle.rows.proofs.has_thread.Symbol.{name as #rows·has-thread}
+use Rattle.rows.proofs.has_thread.Met as has-thread-thm
 use Rattle.step.proofs.step as step
 use Rattle.step.proofs.step.Symbol as step-def
 use Rattle.step.proofs.step.Symbol.{name as #step·step}
@@ -148,11 +150,11 @@ module _ {M : Type 1} (𝓤 : URA M) (H : Heap 𝓤) (A : Atoms 𝓤) (W : Given
       nothing ! $ had ! (uint-data w64) n (refl, n-fits) $ fjoin ! $ had ! thread-data elem elem-ok $ fjoin ! $ move ! (2 ∷ 0 ∷ []) $ fjoin ! $ had ! queue-data x x-ok $ fjoin ! $ move ! (1 ∷ 0 ∷ []) $ join ! $ frame ! $ done !
 
   module _ (C : Calls 𝓤 H) (Λ : Loops 𝓤 H) (fm : FmC 𝓤 H (W .laws) C)
-      (known-sizes : Triple 𝓤 (C #table·sizes-good) (Of 𝓤 H A sizes-good.ended (sizes-good.clauses 𝓤 H A mem run)))
+      (known-sizes : Triple 𝓤 (C #rows·sizes-good) (Of 𝓤 H A sizes-good.ended (sizes-good.clauses 𝓤 H A mem run)))
       (known-refused : Triple 𝓤 (C #table·refused) (Of 𝓤 H A refused.ended (refused.clauses 𝓤 H A mem run)))
-      (known-shared : Triple 𝓤 (C #table·shared-good) (Of 𝓤 H A shared-good.ended (shared-good.clauses 𝓤 H A mem run)))
-      (known-all : Triple 𝓤 (C #table·all-good) (Of 𝓤 H A all-good.ended (all-good.clauses 𝓤 H A mem run)))
-      (known-has : Triple 𝓤 (C #table·has-thread) (Of 𝓤 H A has-thread.ended (has-thread.clauses 𝓤 H A mem run)))
+      (known-shared : Triple 𝓤 (C #rows·shared-good) (Of 𝓤 H A shared-good.ended (shared-good.clauses 𝓤 H A mem run)))
+      (known-all : Triple 𝓤 (C #rows·all-good) (Of 𝓤 H A all-good.ended (all-good.clauses 𝓤 H A mem run)))
+      (known-has : Triple 𝓤 (C #rows·has-thread) (Of 𝓤 H A has-thread.ended (has-thread.clauses 𝓤 H A mem run)))
       (known-step : Triple 𝓤 (C #step·step) (Of 𝓤 H A step.ended (step.clauses 𝓤 H A mem run)))
       (known-record : Triple 𝓤 (C #table·record-of) (Of 𝓤 H A record-of.ended (record-of.clauses 𝓤 H A mem run)))
       (known-rest : Triple 𝓤 (C #table·rest-of) (Of 𝓤 H A rest-of.ended (rest-of.clauses 𝓤 H A mem run))) where
@@ -265,11 +267,11 @@ step-table-spec 𝓤 H 𝓜 𝓖 𝓡 =
     (λ κs qs bounds a g are. via 𝓤 _ (fst∗ 𝓤 _ (emp 𝓤))
     (walk 𝓤 H (𝓖 .A) (givenOf 𝓤 H 𝓜 𝓖) (𝓜 .mem) (𝓡 .run) (κs .0) (κs .1 .0) (qs .0) (qs .1 .0) (a .0) (a .1 .0 .ptr .0) (a .1 .0 .ptr .1) (a .1 .0 .name) (a .1 .0 .now) (a .1 .1 .0 .ptr .0) (a .1 .1 .0 .ptr .1) (a .1 .1 .0 .name) (a .1 .1 .0 .now) (a .1 .1 .1 .0)
     (tablesAt 𝓤 H 𝓜 𝓖 𝓡 code.env .C) (tablesAt 𝓤 H 𝓜 𝓖 𝓡 code.env .Λ) (fmOf 𝓤 H (givenOf 𝓤 H 𝓜 𝓖 .laws) (tablesAt 𝓤 H 𝓜 𝓖 𝓡 code.env))
-    (cites 𝓤 H 𝓜 𝓖 𝓡 code.env #table·sizes-good sizes-good-def.routine code.calls-table·sizes-good sizes-good.ended (sizes-good.clauses 𝓤 H (𝓖 .A) (𝓜 .mem) (𝓡 .run)) (sizes-good-thm.met 𝓤 H 𝓜 𝓖 𝓡))
+    (cites 𝓤 H 𝓜 𝓖 𝓡 code.env #rows·sizes-good sizes-good-def.routine code.calls-rows·sizes-good sizes-good.ended (sizes-good.clauses 𝓤 H (𝓖 .A) (𝓜 .mem) (𝓡 .run)) (sizes-good-thm.met 𝓤 H 𝓜 𝓖 𝓡))
     (cites 𝓤 H 𝓜 𝓖 𝓡 code.env #table·refused refused-def.routine code.calls-table·refused refused.ended (refused.clauses 𝓤 H (𝓖 .A) (𝓜 .mem) (𝓡 .run)) (refused-thm.met 𝓤 H 𝓜 𝓖 𝓡))
-    (cites 𝓤 H 𝓜 𝓖 𝓡 code.env #table·shared-good shared-good-def.routine code.calls-table·shared-good shared-good.ended (shared-good.clauses 𝓤 H (𝓖 .A) (𝓜 .mem) (𝓡 .run)) (shared-good-thm.met 𝓤 H 𝓜 𝓖 𝓡))
-    (cites 𝓤 H 𝓜 𝓖 𝓡 code.env #table·all-good all-good-def.routine code.calls-table·all-good all-good.ended (all-good.clauses 𝓤 H (𝓖 .A) (𝓜 .mem) (𝓡 .run)) (all-good-thm.met 𝓤 H 𝓜 𝓖 𝓡))
-    (cites 𝓤 H 𝓜 𝓖 𝓡 code.env #table·has-thread has-thread-def.routine code.calls-table·has-thread has-thread.ended (has-thread.clauses 𝓤 H (𝓖 .A) (𝓜 .mem) (𝓡 .run)) (has-thread-thm.met 𝓤 H 𝓜 𝓖 𝓡))
+    (cites 𝓤 H 𝓜 𝓖 𝓡 code.env #rows·shared-good shared-good-def.routine code.calls-rows·shared-good shared-good.ended (shared-good.clauses 𝓤 H (𝓖 .A) (𝓜 .mem) (𝓡 .run)) (shared-good-thm.met 𝓤 H 𝓜 𝓖 𝓡))
+    (cites 𝓤 H 𝓜 𝓖 𝓡 code.env #rows·all-good all-good-def.routine code.calls-rows·all-good all-good.ended (all-good.clauses 𝓤 H (𝓖 .A) (𝓜 .mem) (𝓡 .run)) (all-good-thm.met 𝓤 H 𝓜 𝓖 𝓡))
+    (cites 𝓤 H 𝓜 𝓖 𝓡 code.env #rows·has-thread has-thread-def.routine code.calls-rows·has-thread has-thread.ended (has-thread.clauses 𝓤 H (𝓖 .A) (𝓜 .mem) (𝓡 .run)) (has-thread-thm.met 𝓤 H 𝓜 𝓖 𝓡))
     (cites 𝓤 H 𝓜 𝓖 𝓡 code.env #step·step step-def.routine code.calls-step·step step.ended (step.clauses 𝓤 H (𝓖 .A) (𝓜 .mem) (𝓡 .run)) (step-thm.met 𝓤 H 𝓜 𝓖 𝓡))
     (cites 𝓤 H 𝓜 𝓖 𝓡 code.env #table·record-of record-of-def.routine code.calls-table·record-of record-of.ended (record-of.clauses 𝓤 H (𝓖 .A) (𝓜 .mem) (𝓡 .run)) (record-of-thm.met 𝓤 H 𝓜 𝓖 𝓡))
     (cites 𝓤 H 𝓜 𝓖 𝓡 code.env #table·rest-of rest-of-def.routine code.calls-table·rest-of rest-of.ended (rest-of.clauses 𝓤 H (𝓖 .A) (𝓜 .mem) (𝓡 .run)) (rest-of-thm.met 𝓤 H 𝓜 𝓖 𝓡))

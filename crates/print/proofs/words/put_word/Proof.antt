@@ -1,304 +1,42 @@
--- `print::words::put_word` meets its contract, word by word.
 use borrow.Author.Needs.{needs}
-use Rattle.text.specs.Print.{wordBytes}
+use native.Mathlib.Omega.{arith}
+use mathlib.Core.Path.{sym}
 use Rattle.print.proofs.words.put_word.Statement.{statement}
 use Rattle.print.proofs.words.put_word.Tie as tie
 
-enum-told : tie.Need-enum-told
-enum-told c = search needs
+spelt-requires : tie.Need-spelt-requires
+spelt-requires c κs = search needs
+
+array-read-count : tie.Need-array-read-count
+array-read-count c = search needs
+
+cast-count : tie.Need-cast-count
+cast-count c = search needs
+
+array-share-prefix-letters : tie.Need-array-share-prefix-letters
+array-share-prefix-letters c = search needs
 
 slice-aggregate-put-bytes : tie.Need-slice-aggregate-put-bytes
-slice-aggregate-put-bytes c = search needs
+slice-aggregate-put-bytes c = sym (c .before .before .spelt .ensures .1 .0)
 
 put-bytes-requires : tie.Need-put-bytes-requires
-put-bytes-requires c κs = search needs
-
-enum-told-2 : tie.Need-enum-told-2
-enum-told-2 c = search needs
-
-slice-aggregate-put-bytes-2 : tie.Need-slice-aggregate-put-bytes-2
-slice-aggregate-put-bytes-2 c = search needs
-
-put-bytes-requires-2 : tie.Need-put-bytes-requires-2
-put-bytes-requires-2 c κs = search needs
-
-enum-told-3 : tie.Need-enum-told-3
-enum-told-3 c = search needs
-
-slice-aggregate-put-bytes-3 : tie.Need-slice-aggregate-put-bytes-3
-slice-aggregate-put-bytes-3 c = search needs
-
-put-bytes-requires-3 : tie.Need-put-bytes-requires-3
-put-bytes-requires-3 c κs = search needs
-
-enum-told-4 : tie.Need-enum-told-4
-enum-told-4 c = search needs
-
-slice-aggregate-put-bytes-4 : tie.Need-slice-aggregate-put-bytes-4
-slice-aggregate-put-bytes-4 c = search needs
-
-put-bytes-requires-4 : tie.Need-put-bytes-requires-4
-put-bytes-requires-4 c κs = search needs
-
-enum-told-5 : tie.Need-enum-told-5
-enum-told-5 c = search needs
-
-slice-aggregate-put-bytes-5 : tie.Need-slice-aggregate-put-bytes-5
-slice-aggregate-put-bytes-5 c = search needs
-
-put-bytes-requires-5 : tie.Need-put-bytes-requires-5
-put-bytes-requires-5 c κs = search needs
-
-enum-told-6 : tie.Need-enum-told-6
-enum-told-6 c = search needs
-
-slice-aggregate-put-bytes-6 : tie.Need-slice-aggregate-put-bytes-6
-slice-aggregate-put-bytes-6 c = search needs
-
-put-bytes-requires-6 : tie.Need-put-bytes-requires-6
-put-bytes-requires-6 c κs = search needs
-
-enum-told-7 : tie.Need-enum-told-7
-enum-told-7 c = search needs
-
-slice-aggregate-put-bytes-7 : tie.Need-slice-aggregate-put-bytes-7
-slice-aggregate-put-bytes-7 c = search needs
-
-put-bytes-requires-7 : tie.Need-put-bytes-requires-7
-put-bytes-requires-7 c κs = search needs
-
-enum-told-8 : tie.Need-enum-told-8
-enum-told-8 c = search needs
-
-slice-aggregate-put-bytes-8 : tie.Need-slice-aggregate-put-bytes-8
-slice-aggregate-put-bytes-8 c = search needs
-
-put-bytes-requires-8 : tie.Need-put-bytes-requires-8
-put-bytes-requires-8 c κs = search needs
-
-enum-told-9 : tie.Need-enum-told-9
-enum-told-9 c = search needs
-
-slice-aggregate-put-bytes-9 : tie.Need-slice-aggregate-put-bytes-9
-slice-aggregate-put-bytes-9 c = search needs
-
-put-bytes-requires-9 : tie.Need-put-bytes-requires-9
-put-bytes-requires-9 c κs = search needs
-
-enum-told-10 : tie.Need-enum-told-10
-enum-told-10 c = search needs
-
-slice-aggregate-put-bytes-10 : tie.Need-slice-aggregate-put-bytes-10
-slice-aggregate-put-bytes-10 c = search needs
-
-put-bytes-requires-10 : tie.Need-put-bytes-requires-10
-put-bytes-requires-10 c κs = search needs
-
-enum-told-11 : tie.Need-enum-told-11
-enum-told-11 c = search needs
-
-slice-aggregate-put-bytes-11 : tie.Need-slice-aggregate-put-bytes-11
-slice-aggregate-put-bytes-11 c = search needs
-
-put-bytes-requires-11 : tie.Need-put-bytes-requires-11
-put-bytes-requires-11 c κs = search needs
-
-enum-told-12 : tie.Need-enum-told-12
-enum-told-12 c = search needs
-
-slice-aggregate-put-bytes-12 : tie.Need-slice-aggregate-put-bytes-12
-slice-aggregate-put-bytes-12 c = search needs
-
-put-bytes-requires-12 : tie.Need-put-bytes-requires-12
-put-bytes-requires-12 c κs = search needs
-
-enum-told-13 : tie.Need-enum-told-13
-enum-told-13 c = search needs
-
-slice-aggregate-put-bytes-13 : tie.Need-slice-aggregate-put-bytes-13
-slice-aggregate-put-bytes-13 c = search needs
-
-put-bytes-requires-13 : tie.Need-put-bytes-requires-13
-put-bytes-requires-13 c κs = search needs
-
-enum-told-14 : tie.Need-enum-told-14
-enum-told-14 c = search needs
-
-slice-aggregate-put-bytes-14 : tie.Need-slice-aggregate-put-bytes-14
-slice-aggregate-put-bytes-14 c = search needs
-
-put-bytes-requires-14 : tie.Need-put-bytes-requires-14
-put-bytes-requires-14 c κs = search needs
+put-bytes-requires c κs = omega (arith, c .before .before .spelt .ensures .1 .0, c .before .before .spelt .ensures .1 .1, c .before .before .before .before .pre)
 
 same-length : tie.Need-same-length
 same-length c = search needs
 
 returns : tie.Need-returns
-unfolding wordBytes
-returns c = rw (c .before .before .before .before .before .enum-told .given .1) (c .before .before .put-bytes .ensures)
-
-same-length-2 : tie.Need-same-length-2
-same-length-2 c = search needs
-
-returns-2 : tie.Need-returns-2
-unfolding wordBytes
-returns-2 c = rw (c .before .before .before .before .before .enum-told2 .given .1) (c .before .before .put-bytes2 .ensures)
-
-same-length-3 : tie.Need-same-length-3
-same-length-3 c = search needs
-
-returns-3 : tie.Need-returns-3
-unfolding wordBytes
-returns-3 c = rw (c .before .before .before .before .before .enum-told3 .given .1) (c .before .before .put-bytes3 .ensures)
-
-same-length-4 : tie.Need-same-length-4
-same-length-4 c = search needs
-
-returns-4 : tie.Need-returns-4
-unfolding wordBytes
-returns-4 c = rw (c .before .before .before .before .before .enum-told4 .given .1) (c .before .before .put-bytes4 .ensures)
-
-same-length-5 : tie.Need-same-length-5
-same-length-5 c = search needs
-
-returns-5 : tie.Need-returns-5
-unfolding wordBytes
-returns-5 c = rw (c .before .before .before .before .before .enum-told5 .given .1) (c .before .before .put-bytes5 .ensures)
-
-same-length-6 : tie.Need-same-length-6
-same-length-6 c = search needs
-
-returns-6 : tie.Need-returns-6
-unfolding wordBytes
-returns-6 c = rw (c .before .before .before .before .before .enum-told6 .given .1) (c .before .before .put-bytes6 .ensures)
-
-same-length-7 : tie.Need-same-length-7
-same-length-7 c = search needs
-
-returns-7 : tie.Need-returns-7
-unfolding wordBytes
-returns-7 c = rw (c .before .before .before .before .before .enum-told7 .given .1) (c .before .before .put-bytes7 .ensures)
-
-same-length-8 : tie.Need-same-length-8
-same-length-8 c = search needs
-
-returns-8 : tie.Need-returns-8
-unfolding wordBytes
-returns-8 c = rw (c .before .before .before .before .before .enum-told8 .given .1) (c .before .before .put-bytes8 .ensures)
-
-same-length-9 : tie.Need-same-length-9
-same-length-9 c = search needs
-
-returns-9 : tie.Need-returns-9
-unfolding wordBytes
-returns-9 c = rw (c .before .before .before .before .before .enum-told9 .given .1) (c .before .before .put-bytes9 .ensures)
-
-same-length-10 : tie.Need-same-length-10
-same-length-10 c = search needs
-
-returns-10 : tie.Need-returns-10
-unfolding wordBytes
-returns-10 c = rw (c .before .before .before .before .before .enum-told10 .given .1) (c .before .before .put-bytes10 .ensures)
-
-same-length-11 : tie.Need-same-length-11
-same-length-11 c = search needs
-
-returns-11 : tie.Need-returns-11
-unfolding wordBytes
-returns-11 c = rw (c .before .before .before .before .before .enum-told11 .given .1) (c .before .before .put-bytes11 .ensures)
-
-same-length-12 : tie.Need-same-length-12
-same-length-12 c = search needs
-
-returns-12 : tie.Need-returns-12
-unfolding wordBytes
-returns-12 c = rw (c .before .before .before .before .before .enum-told12 .given .1) (c .before .before .put-bytes12 .ensures)
-
-same-length-13 : tie.Need-same-length-13
-same-length-13 c = search needs
-
-returns-13 : tie.Need-returns-13
-unfolding wordBytes
-returns-13 c = rw (c .before .before .before .before .before .enum-told13 .given .1) (c .before .before .put-bytes13 .ensures)
-
-same-length-14 : tie.Need-same-length-14
-same-length-14 c = search needs
-
-returns-14 : tie.Need-returns-14
-unfolding wordBytes
-returns-14 c = rw (c .before .before .before .before .before .enum-told14 .given .1) (c .before .before .put-bytes14 .ensures)
+returns c = rw (c .before .before .before .before .before .spelt .ensures .0) at (c .before .before .put-bytes .ensures)
 
 pub put-word-spec : {M : Type 1} → statement M
 put-word-spec =
     tie.close
     (tie.spec
-    enum-told
+    spelt-requires
+    array-read-count
+    cast-count
+    array-share-prefix-letters
     slice-aggregate-put-bytes
     put-bytes-requires
-    enum-told-2
-    slice-aggregate-put-bytes-2
-    put-bytes-requires-2
-    enum-told-3
-    slice-aggregate-put-bytes-3
-    put-bytes-requires-3
-    enum-told-4
-    slice-aggregate-put-bytes-4
-    put-bytes-requires-4
-    enum-told-5
-    slice-aggregate-put-bytes-5
-    put-bytes-requires-5
-    enum-told-6
-    slice-aggregate-put-bytes-6
-    put-bytes-requires-6
-    enum-told-7
-    slice-aggregate-put-bytes-7
-    put-bytes-requires-7
-    enum-told-8
-    slice-aggregate-put-bytes-8
-    put-bytes-requires-8
-    enum-told-9
-    slice-aggregate-put-bytes-9
-    put-bytes-requires-9
-    enum-told-10
-    slice-aggregate-put-bytes-10
-    put-bytes-requires-10
-    enum-told-11
-    slice-aggregate-put-bytes-11
-    put-bytes-requires-11
-    enum-told-12
-    slice-aggregate-put-bytes-12
-    put-bytes-requires-12
-    enum-told-13
-    slice-aggregate-put-bytes-13
-    put-bytes-requires-13
-    enum-told-14
-    slice-aggregate-put-bytes-14
-    put-bytes-requires-14
     same-length
-    returns
-    same-length-2
-    returns-2
-    same-length-3
-    returns-3
-    same-length-4
-    returns-4
-    same-length-5
-    returns-5
-    same-length-6
-    returns-6
-    same-length-7
-    returns-7
-    same-length-8
-    returns-8
-    same-length-9
-    returns-9
-    same-length-10
-    returns-10
-    same-length-11
-    returns-11
-    same-length-12
-    returns-12
-    same-length-13
-    returns-13
-    same-length-14
-    returns-14)
+    returns)

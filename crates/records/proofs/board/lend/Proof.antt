@@ -19,7 +19,8 @@ use Rattle.state.proofs.Queue as Queue′
 use Rattle.state.proofs.Thread as Thread′
 use Rattle.table.specs.declared.TableStep.{TableStep}
 use Rattle.table.specs.Table.{TableAfter, tableEntry}
-use Rattle.table.proofs.Plain.{queue-data, thread-data, table-step-data}
+use Rattle.rows.proofs.Plain.{queue-data, thread-data}
+use Rattle.table.proofs.Plain.{table-step-data}
 use Rattle.table.proofs.step_table as step
 use Rattle.table.proofs.step_table.Symbol as step-def
 use Rattle.table.proofs.step_table.Symbol.{name as #table·step-table}
