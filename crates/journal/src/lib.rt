@@ -7,6 +7,7 @@ pub use log::Stage;
 use opening::open_line;
 use whole::assembled;
 pub use whole::finish;
+use whole::gave;
 pub use whole::new;
 ghost use mathlib.Core.Path.{_≡_};
 ghost use mathlib.Core.Bool.{false};
@@ -21,16 +22,6 @@ const LARGEST_POOL: usize = 4096;
 
 // A byte is read only where all that it may make has room.
 const ROOM: usize = 256;
-
-fn gave(replay: Replay, read: usize, written: usize) -> Fed
-    ensures { λ r. ⌜ r ≡ record { replay = replay; read = read; written = written } ⌝ }
-{
-    Fed {
-        replay,
-        read,
-        written,
-    }
-}
 
 // From a place of the piece on, with line 1 read.
 fn go_on(fed: Fed, pool: &mut [u64], piece: &[u8], out: &mut [u8]) -> Fed
@@ -125,7 +116,6 @@ pub fn feed(replay: Replay, pool: &mut [u64], piece: &[u8], out: &mut [u8]) -> F
     let stage = replay.stage;
     match stage {
         Stage::First => feed_first(replay, pool, piece, out),
-        Stage::Open => feed_open(replay, 0, 0, pool, piece, out),
-        Stage::Over => gave(replay, piece.len(), 0),
+        _ => go_on(gave(replay, 0, 0), pool, piece, out),
     }
 }

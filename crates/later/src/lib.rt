@@ -12,6 +12,7 @@ use state::Queue;
 use state::Thread;
 use text::Parsed;
 use whole::assembled;
+use whole::gave;
 ghost use mathlib.Core.Path.{_≡_};
 ghost use Prim.Native.Nat.{_≤_};
 ghost use lib.ListN.{length};
@@ -35,12 +36,11 @@ fn closed(
 ) -> Fed
     ensures { λ r. ⌜ r ≡ record { replay = record { queue = queue; threads = threads; line = line; held = held; number = number; steps = steps; stage = stage }; read = read; written = written } ⌝ }
 {
-    let replay = assembled(queue, threads, line, held, number, steps, stage);
-    Fed {
-        replay,
+    gave(
+        assembled(queue, threads, line, held, number, steps, stage),
         read,
         written,
-    }
+    )
 }
 
 // From a place of the piece and of the buffer on. The fields stay in locals, so that a line moves one record and not the

@@ -31,6 +31,7 @@ pub mod Begin
 pub mod Pop
 pub mod Advance
 pub mod Step
+pub mod Going
 pub mod Run
 pub mod Lines
 pub mod Places

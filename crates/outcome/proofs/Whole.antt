@@ -7,6 +7,9 @@ use Rattle.whole.proofs as whole
 pub assembled : One whole.assembled.ended whole.assembled.Reads.Learnt
 assembled _ _ _ _ _ _ p q = (both p q, refl)
 
+pub gave : One whole.gave.ended whole.gave.Reads.Learnt
+gave _ _ _ _ _ _ p q = (both p q, refl)
+
 pub finish : One whole.finish.ended whole.finish.Reads.Learnt
 finish _ _ _ _ _ _ p q = (both (p .1 .0) (q .1 .0), later (first (both (p .0) (q .0))))
 

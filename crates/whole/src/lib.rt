@@ -2,6 +2,7 @@
 use index::Index;
 use lines::say_bad;
 use lines::say_end;
+use log::Fed;
 use log::Replay;
 use log::Stage;
 use ring::Flavor;
@@ -33,6 +34,17 @@ pub fn assembled(
         number,
         steps,
         stage,
+    }
+}
+
+// The replay with how much of a piece was read and of a buffer written.
+pub fn gave(replay: Replay, read: usize, written: usize) -> Fed
+    ensures { λ r. ⌜ r ≡ record { replay = replay; read = read; written = written } ⌝ }
+{
+    Fed {
+        replay,
+        read,
+        written,
     }
 }
 

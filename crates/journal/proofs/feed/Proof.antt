@@ -1,11 +1,29 @@
-use Rattle.log.proofs.Outcome.{fed-short, fed-came, outcome-over}
+use Prim.Native.Nat.{ℕ}
+use Rattle.log.proofs.Outcome.{fed-short, fed-came}
+use Rattle.log.proofs.Stage.{the-type}
+use Rattle.log.specs.declared.Stage.{Stage}
+use Rattle.log.specs.declared.Stage.the-variants.{First, Open, Over}
+use Rattle.log.specs.Feed.{isFirst}
+use types.Run.{OneOf, miss}
+use denote.Enum.Declared.{tagOf}
 use denote.Ref.{now}
 use lib.ListN.{length}
+use mathlib.Core.Bool.{false}
+use mathlib.Core.List.{List, [], _∷_}
 use native.Mathlib.Omega.{arith}
 use mathlib.Core.Path.{_≡_, refl, sym, ap, _∙_}
 use borrow.Author.Needs.{needs}
 use Rattle.journal.proofs.feed.Statement.{statement}
 use Rattle.journal.proofs.feed.Tie as tie
+
+-- the stages of the last arm, by their numbers
+abbrev others : List ℕ
+others = 1 ∷ 2 ∷ []
+
+past : (stage : Stage) → OneOf others (tagOf the-type stage) → isFirst stage ≡ false
+past First e = absurd (miss others 0 tt e)
+past Open e = refl
+past Over e = refl
 
 gave-requires : tie.Need-gave-requires
 gave-requires c κs = search needs
@@ -22,17 +40,11 @@ enum-told c = search needs
 feed-first-requires : tie.Need-feed-first-requires
 feed-first-requires c κs = search needs
 
-enum-told-2 : tie.Need-enum-told-2
-enum-told-2 c = search needs
-
-feed-open-requires : tie.Need-feed-open-requires
-feed-open-requires c κs = search needs
-
-enum-told-3 : tie.Need-enum-told-3
-enum-told-3 c = search needs
-
 gave-requires-2 : tie.Need-gave-requires-2
 gave-requires-2 c κs = search needs
+
+go-on-requires : tie.Need-go-on-requires
+go-on-requires c κs = rw (c .before .before .gave2 .ensures) (past (c .before .before .before .before .before .before .before .before .args .replay .stage) (c .before .before .before .match .keys2), search needs, search needs)
 
 same-length : tie.Need-same-length
 same-length c = search needs
@@ -54,14 +66,7 @@ same-length-4 c = search needs
 returns-3 : tie.Need-returns-3
 returns-3 c =
     let a = c .before .before .before .before .before .before .before .before .before .before .before .before .before .args in
-    fed-came (a .replay) (now (a .pool)) (now (a .piece)) (now (a .out)) _ _ _ (c .before .before .before .before .before .before .before .before .before .if1 .left) (c .before .before .before .before .feed-open .ensures)
-
-returns-4 : tie.Need-returns-4
-returns-4 c =
-    let a = c .before .before .before .before .before .before .before .args in
-    let over = outcome-over (now (a .piece)) (a .replay) (now (a .pool)) 0 (now (a .out)) 0 (omega arith) (c .before .enum-told3 .given .1) in
-    rw (c .gave2 .ensures)
-    (fed-came (a .replay) (now (a .pool)) (now (a .piece)) (now (a .out)) _ _ _ (c .before .before .before .if1 .left) (record { comes = over; inside = search needs; fits = search needs }))
+    fed-came (a .replay) (now (a .pool)) (now (a .piece)) (now (a .out)) _ _ _ (c .before .before .before .before .before .before .before .before .before .if1 .left) (rw (c .before .before .before .before .before .before .before .gave2 .ensures) at (c .before .before .before .before .go-on .ensures))
 
 pub feed-spec : {M : Type 1} → statement M
 feed-spec =
@@ -71,14 +76,11 @@ feed-spec =
     returns
     enum-told
     feed-first-requires
-    enum-told-2
-    feed-open-requires
-    enum-told-3
     gave-requires-2
+    go-on-requires
     same-length
     same-length-2
     returns-2
     same-length-3
     same-length-4
-    returns-3
-    returns-4)
+    returns-3)

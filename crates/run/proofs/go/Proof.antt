@@ -12,19 +12,16 @@ use Rattle.run.proofs.go.Statement.{statement}
 use Rattle.run.proofs.go.Tie as tie
 
 abbrev Inv-loop : tie.InvT-loop
-Inv-loop pool₀ budget queue₀ worker₀ used₀ pool queue worker used = (length pool ≡ length pool₀) × Going (runFrom budget queue₀ pool₀ worker₀) budget used queue pool worker
+Inv-loop queue₀ pool₀ worker₀ budget used₀ queue pool worker used = (length pool ≡ length pool₀) × Going (runFrom budget queue₀ pool₀ worker₀) budget used queue pool worker
 
 abbrev μ-loop : tie.MeasureT-loop
-μ-loop pool₀ budget queue₀ worker₀ used₀ pool queue worker used = budget - used
+μ-loop queue₀ pool₀ worker₀ budget used₀ queue pool worker used = budget - used
 
 loop-holds : tie.Need-loop-holds Inv-loop μ-loop
 loop-holds c = (refl, going _ _ _ _ (c .before .pre .0) (c .before .pre .1))
 
-wait-of-requires : tie.Need-wait-of-requires Inv-loop μ-loop
-wait-of-requires c κs = tt
-
-waits-requires : tie.Need-waits-requires Inv-loop μ-loop
-waits-requires c κs = tt
+only-waits-requires : tie.Need-only-waits-requires Inv-loop μ-loop
+only-waits-requires c κs = tt
 
 sub-waited : tie.Need-sub-waited Inv-loop μ-loop
 sub-waited c = c .before .before .before .before .before .loop .inv .1 .within
@@ -37,18 +34,18 @@ same-length c = c .before .before .before .before .before .before .loop .inv .0
 
 returns : tie.Need-returns Inv-loop μ-loop
 returns c =
-    let waits = sym (c .before .before .waits .ensures) ∙ c .before .if1 .taken in
-    let e = waited-out _ _ _ _ _ _ (c .before .before .before .before .before .before .loop .inv .1) _ (sym (c .before .before .before .wait-of .ensures)) waits in
+    let waits = sym (c .before .before .before .only-waits .ensures) ∙ c .before .before .if1 .taken in
+    let e = waited-out _ _ _ _ _ _ (c .before .before .before .before .before .before .loop .inv .1) _ refl waits in
     rw e (c .waited .ensures, refl)
 
 advance-requires : tie.Need-advance-requires Inv-loop μ-loop
 advance-requires c κs =
-    let g = c .before .before .before .before .before .before .loop .inv .1 in
+    let g = c .before .before .before .before .before .loop .inv .1 in
     (good-record _ _ _ (g .state), good-tail _ _ (g .setup) (good-shared _ _ _ (g .state)))
 
 add-used : tie.Need-add-used Inv-loop μ-loop
 add-used c =
-    let turn = c .before .before .before .before .before .before .before .before .before .before in
+    let turn = c .before .before .before .before .before .before .before .before .before in
     omega (arith, turn .loop-test .taken, turn .before .before .before .fits .budget)
 
 goes-on-requires : tie.Need-goes-on-requires Inv-loop μ-loop
@@ -60,24 +57,24 @@ made-requires c κs = tt
 same-length-2 : tie.Need-same-length-2 Inv-loop μ-loop
 same-length-2 c =
     let stepped = c .before .before .before .before .before .before .before in
-    stepped .advance .kept .1 .0 ∙ stepped .before .before .before .before .before .before .before .loop .inv .0
+    stepped .advance .kept .1 .0 ∙ stepped .before .before .before .before .before .before .loop .inv .0
 
 returns-2 : tie.Need-returns-2 Inv-loop μ-loop
 returns-2 c =
     let stepped = c .before .before .before .before .before .before .before in
-    let turn = stepped .before .before .before .before .before .before in
+    let turn = stepped .before .before .before .before .before in
     let test = told-false (c .before .before .goes-on .ensures) (c .before .if2 .taken) in
     let made = stepped .advance .ensures in
     rw (stopped _ _ _ _ _ _ (turn .before .loop .inv .1) (turn .loop-test .taken) _ _ (made .0) (made .1) test)
     (c .made .ensures, refl)
 
 loop-less : tie.Need-loop-less Inv-loop μ-loop
-loop-less c = omega (arith, c .before .before .before .before .before .before .before .before .before .before .before .before .loop-test .taken)
+loop-less c = omega (arith, c .before .before .before .before .before .before .before .before .before .before .before .loop-test .taken)
 
 loop-again : tie.Need-loop-again Inv-loop μ-loop
 loop-again c =
     let stepped = c .before .before .before .before .before .before in
-    let turn = stepped .before .before .before .before .before .before in
+    let turn = stepped .before .before .before .before .before in
     let test = told-true (c .before .goes-on .ensures) (c .if2 .left) in
     let made = stepped .advance .ensures in (
       stepped .advance .kept .1 .0 ∙ turn .before .loop .inv .0,
@@ -102,8 +99,7 @@ go-spec =
     Inv-loop
     μ-loop
     loop-holds
-    wait-of-requires
-    waits-requires
+    only-waits-requires
     sub-waited
     waited-requires
     same-length

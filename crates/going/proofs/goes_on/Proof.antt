@@ -1,8 +1,8 @@
 use mathlib.Core.Path.{sym, _∙_}
 use borrow.Author.Needs.{needs}
 use Rattle.state.specs.Tests.{told-true, told-false}
-use Rattle.run.proofs.goes_on.Statement.{statement}
-use Rattle.run.proofs.goes_on.Tie as tie
+use Rattle.going.proofs.goes_on.Statement.{statement}
+use Rattle.going.proofs.goes_on.Tie as tie
 
 is-open-requires : tie.Need-is-open-requires
 is-open-requires c κs = search needs
