@@ -3,6 +3,7 @@ use log::Done;
 use log::Said;
 use machine::Began;
 use machine::Popped;
+use machine::Ran;
 use machine::Request;
 use places::thread_number;
 use state::Answer;
@@ -88,22 +89,28 @@ fn pop_one(q: Queue, pool: &[u64], thread: Thread, number: u64) -> Done
     }
 }
 
+// What a step or a run came to; `still` is what is said where the call stays open.
+fn ran_done(ran: Ran, still: Said) -> Done
+    ensures { λ r. ⌜ r ≡ record { queue = ran .queue; thread = ran .thread; said = answerSaid still (ran .answer); steps = ran .steps } ⌝ }
+{
+    let queue = ran.queue;
+    let thread = ran.thread;
+    let answer = ran.answer;
+    let said = answer_said(still, answer);
+    Done {
+        queue,
+        thread,
+        said,
+        steps: ran.steps,
+    }
+}
+
 // A step that leaves its call open says nothing.
 fn step_one(q: Queue, pool: &mut [u64], thread: Thread, number: u64) -> Done
     ensures { λ r. ⌜ r ≡ stepsOne q (now (pool .entry)) thread number .done ⌝ }
     ensures { λ _. ⌜ now (pool .exit) ≡ stepsOne q (now (pool .entry)) thread number .pool ⌝ }
 {
-    let ran = step::step(q, pool, thread, number);
-    let queue = ran.queue;
-    let after = ran.thread;
-    let answer = ran.answer;
-    let said = answer_said(Said::Silent, answer);
-    Done {
-        queue,
-        thread: after,
-        said,
-        steps: ran.steps,
-    }
+    ran_done(step::step(q, pool, thread, number), Said::Silent)
 }
 
 // A run that leaves its call open has used its budget up, and says so.
@@ -112,16 +119,7 @@ fn run_one(q: Queue, pool: &mut [u64], thread: Thread, number: u64, budget: u64)
     ensures { λ _. ⌜ now (pool .exit) ≡ runs q (now (pool .entry)) thread number budget .pool ⌝ }
 {
     let ran = run::run(q, pool, thread, number, budget);
-    let queue = ran.queue;
-    let after = ran.thread;
-    let answer = ran.answer;
-    let said = answer_said(Said::Plain(Word::Open), answer);
-    Done {
-        queue,
-        thread: after,
-        said,
-        steps: ran.steps,
-    }
+    ran_done(ran, Said::Plain(Word::Open))
 }
 
 // What a command that begins a call asks for.

@@ -3,6 +3,7 @@ use crate::commands::obey;
 use lines::saturating;
 use lines::say;
 use lines::words;
+use log::Done;
 use log::Heard;
 use places::thread_number;
 use state::Queue;
@@ -14,6 +15,20 @@ ghost use lib.ListN.{length, take};
 ghost use Rattle.text.specs.Print.{Wrote};
 ghost use Rattle.log.specs.Command.{threadNumber, orderOf, saidBytes};
 ghost use Rattle.log.specs.Replay.{most, poolBack};
+
+fn heard(done: Done, steps: u64, written: usize) -> Heard
+    ensures { λ r. ⌜ r ≡ record { queue = done .queue; thread = done .thread; steps = min (steps + done .steps) most; written = written } ⌝ }
+{
+    let queue = done.queue;
+    let thread = done.thread;
+    let steps = saturating(steps, done.steps);
+    Heard {
+        queue,
+        thread,
+        steps,
+        written,
+    }
+}
 
 // A byte is read only where 256 bytes of the buffer are free, so the room that is asked for is there.
 pub fn hear(
@@ -36,16 +51,7 @@ pub fn hear(
 {
     let used = words(queue.blocks, pool.len());
     let done = obey(queue, &mut pool[..used], thread, command);
-    let after = done.queue;
-    let thread = done.thread;
     let said = done.said;
-    let n = thread_number(command);
-    let written = say(out, at, number, n, said);
-    let steps = saturating(steps, done.steps);
-    Heard {
-        queue: after,
-        thread,
-        steps,
-        written,
-    }
+    let written = say(out, at, number, thread_number(command), said);
+    heard(done, steps, written)
 }

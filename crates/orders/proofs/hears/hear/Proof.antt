@@ -29,8 +29,8 @@ thread-number-requires c κs = search needs
 say-requires : tie.Need-say-requires
 say-requires c κs = search needs
 
-saturating-requires : tie.Need-saturating-requires
-saturating-requires c κs = search needs
+heard-requires : tie.Need-heard-requires
+heard-requires c κs = search needs
 
 same-length : tie.Need-same-length
 same-length c = search needs
@@ -40,12 +40,13 @@ same-length-2 c = search needs
 
 returns : tie.Need-returns
 returns c =
-    let m = now (c .before .before .before .before .before .before .before .before .before .before .before .before .before .before .before .args .pool) in
-    let same = lent-take m _ _ (c .before .before .before .before .before .before .before .before .before .before .before .before .words .ensures) in
-    let done = rw same at (c .before .before .before .before .before .before .before .before .before .before .obey .ensures .0) in
-    let pool = rw same at (c .before .before .before .before .before .before .before .before .before .before .obey .ensures .1) in
-    let back = lent-back m _ _ (c .before .before .before .before .before .before .before .before .before .before .before .before .words .ensures) (c .before .before .before .before .before .before .before .before .before .before .obey .last .1 .0) (c .before .before .before .before .before .before .before .before .before .before .obey .kept .1 .0) ∙ ap (λ (e : List ℕ). poolBack e m) pool in
-    (ap (λ (d : Done). d .queue) done, (ap (λ (d : Done). d .thread) done, (c .saturating .ensures ∙ rw done, (back, (rw (← c .before .before .before .before .before .thread-number .ensures, ← done) (c .before .before .before .say .ensures .0), c .before .before .before .say .ensures .1)))))
+    let m = now (c .before .before .before .before .before .before .before .before .before .before .before .before .before .args .pool) in
+    let same = lent-take m _ _ (c .before .before .before .before .before .before .before .before .before .before .words .ensures) in
+    let done = rw same at (c .before .before .before .before .before .before .before .before .obey .ensures .0) in
+    let pool = rw same at (c .before .before .before .before .before .before .before .before .obey .ensures .1) in
+    let back = lent-back m _ _ (c .before .before .before .before .before .before .before .before .before .before .words .ensures) (c .before .before .before .before .before .before .before .before .obey .last .1 .0) (c .before .before .before .before .before .before .before .before .obey .kept .1 .0) ∙ ap (λ (e : List ℕ). poolBack e m) pool in
+    rw (c .heard .ensures)
+    (ap (λ (d : Done). d .queue) done, (ap (λ (d : Done). d .thread) done, (rw done, (back, (rw (← c .before .before .before .before .thread-number .ensures, ← done) (c .before .before .before .say .ensures .0), c .before .before .before .say .ensures .1)))))
 
 pub hear-spec : {M : Type 1} → statement M
 hear-spec =
@@ -57,7 +58,7 @@ hear-spec =
     obey-requires
     thread-number-requires
     say-requires
-    saturating-requires
+    heard-requires
     same-length
     same-length-2
     returns)
