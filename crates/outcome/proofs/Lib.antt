@@ -41,5 +41,6 @@ pub mod Opening
 pub mod Journal
 pub mod Later
 pub mod Rows
+pub mod Tabled
 pub mod Table
 pub mod Say

@@ -14,7 +14,7 @@ use denote.Triple.Clauses.{AtExit}
 use denote.Triple.Entry.{Args, Res}
 use Rattle.outcome.specs.One.{One, Says}
 use Rattle.outcome.proofs.Equations.{both, pair, first, later}
-use Rattle.table.specs.Table.{TableAfter, tableEntry}
+use Rattle.tabled.specs.Table.{TableAfter, tableEntry}
 use Rattle.table.proofs as table
 
 abbrev entry : (κs : Lfts 2) → Args (table.step_table.signature) κs → TableAfter

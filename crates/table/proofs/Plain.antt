@@ -6,8 +6,8 @@ use Rattle.state.proofs.Refusal.Laws as Refusal′
 use Rattle.state.specs.declared.Refusal.the-variants.{BadSetup, BadState, NoThread}
 use Rattle.machine.proofs.Ran as Ran
 use Rattle.machine.proofs.Ran.Laws as Ran′
-use Rattle.table.proofs.TableStep as TableStep
-use Rattle.table.proofs.TableStep.Laws as TableStep′
+use Rattle.tabled.proofs.TableStep as TableStep
+use Rattle.tabled.proofs.TableStep.Laws as TableStep′
 
 abbrev pub refusal-data : Data Refusal.the-row Refusal′.mir
 refusal-data = enum-data Refusal.the-type tt Refusal′.the-laws Refusal′.the-plain Refusal′.the-copy Refusal′.lowers

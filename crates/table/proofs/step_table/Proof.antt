@@ -18,20 +18,20 @@ use Rattle.state.proofs.Thread as Thread′
 use Rattle.state.specs.Tests.{told-true, told-false}
 use Rattle.machine.specs.declared.Ran.{Ran}
 use Rattle.machine.specs.Entry.{stepEntry}
-use Rattle.table.specs.declared.TableStep.{TableStep}
+use Rattle.tabled.specs.declared.TableStep.{TableStep}
 use Rattle.rows.specs.Rows.{sizesGood, allGood, blank}
-use Rattle.table.specs.Table.{TableAfter, refusal, refusedTable, given, tableEntry}
-use Rattle.table.proofs.Laws.{bad-setup, bad-shared, bad-record, no-thread, within, made}
+use Rattle.tabled.specs.Table.{TableAfter, refusal, refusedTable, given, tableEntry}
+use Rattle.tabled.proofs.Laws.{bad-setup, bad-shared, bad-record, no-thread, within, made}
 use Rattle.rows.proofs.Plain.{queue-data, thread-data}
 use Rattle.table.proofs.Plain.{refusal-data, ran-data, table-step-data, bad-setup-ok, bad-state-ok, no-thread-ok}
 use Rattle.rows.proofs.sizes_good as sizes-good
 use Rattle.rows.proofs.sizes_good.Symbol as sizes-good-def
 use Rattle.rows.proofs.sizes_good.Symbol.{name as #rows·sizes-good}
 use Rattle.rows.proofs.sizes_good.Met as sizes-good-thm
-use Rattle.table.proofs.refused as refused
-use Rattle.table.proofs.refused.Symbol as refused-def
-use Rattle.table.proofs.refused.Symbol.{name as #table·refused}
-use Rattle.table.proofs.refused.Met as refused-thm
+use Rattle.tabled.proofs.refused as refused
+use Rattle.tabled.proofs.refused.Symbol as refused-def
+use Rattle.tabled.proofs.refused.Symbol.{name as #tabled·refused}
+use Rattle.tabled.proofs.refused.Met as refused-thm
 use Rattle.rows.proofs.shared_good as shared-good
 use Rattle.rows.proofs.shared_good.Symbol as shared-good-def
 use Rattle.rows.proofs.shared_good.Symbol.{name as #rows·shared-good}
@@ -48,14 +48,14 @@ use Rattle.step.proofs.step as step
 use Rattle.step.proofs.step.Symbol as step-def
 use Rattle.step.proofs.step.Symbol.{name as #step·step}
 use Rattle.step.proofs.step.Met as step-thm
-use Rattle.table.proofs.record_of as record-of
-use Rattle.table.proofs.record_of.Symbol as record-of-def
-use Rattle.table.proofs.record_of.Symbol.{name as #table·record-of}
-use Rattle.table.proofs.record_of.Met as record-of-thm
-use Rattle.table.proofs.rest_of as rest-of
-use Rattle.table.proofs.rest_of.Symbol as rest-of-def
-use Rattle.table.proofs.rest_of.Symbol.{name as #table·rest-of}
-use Rattle.table.proofs.rest_of.Met as rest-of-thm
+use Rattle.tabled.proofs.record_of as record-of
+use Rattle.tabled.proofs.record_of.Symbol as record-of-def
+use Rattle.tabled.proofs.record_of.Symbol.{name as #tabled·record-of}
+use Rattle.tabled.proofs.record_of.Met as record-of-thm
+use Rattle.tabled.proofs.rest_of as rest-of
+use Rattle.tabled.proofs.rest_of.Symbol as rest-of-def
+use Rattle.tabled.proofs.rest_of.Symbol.{name as #tabled·rest-of}
+use Rattle.tabled.proofs.rest_of.Met as rest-of-thm
 use Rattle.table.proofs.step_table.Key.{name as #table·step-table}
 use Rattle.table.proofs.step_table as step-table
 use Rattle.table.proofs.step_table.Statement as stated
@@ -151,13 +151,13 @@ module _ {M : Type 1} (𝓤 : URA M) (H : Heap 𝓤) (A : Atoms 𝓤) (W : Given
 
   module _ (C : Calls 𝓤 H) (Λ : Loops 𝓤 H) (fm : FmC 𝓤 H (W .laws) C)
       (known-sizes : Triple 𝓤 (C #rows·sizes-good) (Of 𝓤 H A sizes-good.ended (sizes-good.clauses 𝓤 H A mem run)))
-      (known-refused : Triple 𝓤 (C #table·refused) (Of 𝓤 H A refused.ended (refused.clauses 𝓤 H A mem run)))
+      (known-refused : Triple 𝓤 (C #tabled·refused) (Of 𝓤 H A refused.ended (refused.clauses 𝓤 H A mem run)))
       (known-shared : Triple 𝓤 (C #rows·shared-good) (Of 𝓤 H A shared-good.ended (shared-good.clauses 𝓤 H A mem run)))
       (known-all : Triple 𝓤 (C #rows·all-good) (Of 𝓤 H A all-good.ended (all-good.clauses 𝓤 H A mem run)))
       (known-has : Triple 𝓤 (C #rows·has-thread) (Of 𝓤 H A has-thread.ended (has-thread.clauses 𝓤 H A mem run)))
       (known-step : Triple 𝓤 (C #step·step) (Of 𝓤 H A step.ended (step.clauses 𝓤 H A mem run)))
-      (known-record : Triple 𝓤 (C #table·record-of) (Of 𝓤 H A record-of.ended (record-of.clauses 𝓤 H A mem run)))
-      (known-rest : Triple 𝓤 (C #table·rest-of) (Of 𝓤 H A rest-of.ended (rest-of.clauses 𝓤 H A mem run))) where
+      (known-record : Triple 𝓤 (C #tabled·record-of) (Of 𝓤 H A record-of.ended (record-of.clauses 𝓤 H A mem run)))
+      (known-rest : Triple 𝓤 (C #tabled·rest-of) (Of 𝓤 H A rest-of.ended (rest-of.clauses 𝓤 H A mem run))) where
     walk : Ok queue-data x → Room Thread′.the-row (length ys) → Room u64 (length ws) → n < 2 ^ 64
         → ent 𝓤 (onEntry 𝓤 H A step-table.signature (y .0 .0) (y .0 .1) (y .0 .3) (y .0 .4)) (WpFn 𝓤 H C Λ code.function (queue-data .val x ∷ t ∷ s ∷ vint w64 n ∷ []) Post)
     walk x-ok room room′ n-fits =
@@ -268,11 +268,11 @@ step-table-spec 𝓤 H 𝓜 𝓖 𝓡 =
     (walk 𝓤 H (𝓖 .A) (givenOf 𝓤 H 𝓜 𝓖) (𝓜 .mem) (𝓡 .run) (κs .0) (κs .1 .0) (qs .0) (qs .1 .0) (a .0) (a .1 .0 .ptr .0) (a .1 .0 .ptr .1) (a .1 .0 .name) (a .1 .0 .now) (a .1 .1 .0 .ptr .0) (a .1 .1 .0 .ptr .1) (a .1 .1 .0 .name) (a .1 .1 .0 .now) (a .1 .1 .1 .0)
     (tablesAt 𝓤 H 𝓜 𝓖 𝓡 code.env .C) (tablesAt 𝓤 H 𝓜 𝓖 𝓡 code.env .Λ) (fmOf 𝓤 H (givenOf 𝓤 H 𝓜 𝓖 .laws) (tablesAt 𝓤 H 𝓜 𝓖 𝓡 code.env))
     (cites 𝓤 H 𝓜 𝓖 𝓡 code.env #rows·sizes-good sizes-good-def.routine code.calls-rows·sizes-good sizes-good.ended (sizes-good.clauses 𝓤 H (𝓖 .A) (𝓜 .mem) (𝓡 .run)) (sizes-good-thm.met 𝓤 H 𝓜 𝓖 𝓡))
-    (cites 𝓤 H 𝓜 𝓖 𝓡 code.env #table·refused refused-def.routine code.calls-table·refused refused.ended (refused.clauses 𝓤 H (𝓖 .A) (𝓜 .mem) (𝓡 .run)) (refused-thm.met 𝓤 H 𝓜 𝓖 𝓡))
+    (cites 𝓤 H 𝓜 𝓖 𝓡 code.env #tabled·refused refused-def.routine code.calls-tabled·refused refused.ended (refused.clauses 𝓤 H (𝓖 .A) (𝓜 .mem) (𝓡 .run)) (refused-thm.met 𝓤 H 𝓜 𝓖 𝓡))
     (cites 𝓤 H 𝓜 𝓖 𝓡 code.env #rows·shared-good shared-good-def.routine code.calls-rows·shared-good shared-good.ended (shared-good.clauses 𝓤 H (𝓖 .A) (𝓜 .mem) (𝓡 .run)) (shared-good-thm.met 𝓤 H 𝓜 𝓖 𝓡))
     (cites 𝓤 H 𝓜 𝓖 𝓡 code.env #rows·all-good all-good-def.routine code.calls-rows·all-good all-good.ended (all-good.clauses 𝓤 H (𝓖 .A) (𝓜 .mem) (𝓡 .run)) (all-good-thm.met 𝓤 H 𝓜 𝓖 𝓡))
     (cites 𝓤 H 𝓜 𝓖 𝓡 code.env #rows·has-thread has-thread-def.routine code.calls-rows·has-thread has-thread.ended (has-thread.clauses 𝓤 H (𝓖 .A) (𝓜 .mem) (𝓡 .run)) (has-thread-thm.met 𝓤 H 𝓜 𝓖 𝓡))
     (cites 𝓤 H 𝓜 𝓖 𝓡 code.env #step·step step-def.routine code.calls-step·step step.ended (step.clauses 𝓤 H (𝓖 .A) (𝓜 .mem) (𝓡 .run)) (step-thm.met 𝓤 H 𝓜 𝓖 𝓡))
-    (cites 𝓤 H 𝓜 𝓖 𝓡 code.env #table·record-of record-of-def.routine code.calls-table·record-of record-of.ended (record-of.clauses 𝓤 H (𝓖 .A) (𝓜 .mem) (𝓡 .run)) (record-of-thm.met 𝓤 H 𝓜 𝓖 𝓡))
-    (cites 𝓤 H 𝓜 𝓖 𝓡 code.env #table·rest-of rest-of-def.routine code.calls-table·rest-of rest-of.ended (rest-of.clauses 𝓤 H (𝓖 .A) (𝓜 .mem) (𝓡 .run)) (rest-of-thm.met 𝓤 H 𝓜 𝓖 𝓡))
+    (cites 𝓤 H 𝓜 𝓖 𝓡 code.env #tabled·record-of record-of-def.routine code.calls-tabled·record-of record-of.ended (record-of.clauses 𝓤 H (𝓖 .A) (𝓜 .mem) (𝓡 .run)) (record-of-thm.met 𝓤 H 𝓜 𝓖 𝓡))
+    (cites 𝓤 H 𝓜 𝓖 𝓡 code.env #tabled·rest-of rest-of-def.routine code.calls-tabled·rest-of rest-of.ended (rest-of.clauses 𝓤 H (𝓖 .A) (𝓜 .mem) (𝓡 .run)) (rest-of-thm.met 𝓤 H 𝓜 𝓖 𝓡))
     (are .0) (are .1 .0 .0 .1) (are .1 .1 .0 .0 .1) (are .1 .1 .1 .0 .1)))

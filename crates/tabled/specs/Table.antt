@@ -13,7 +13,7 @@ use Rattle.state.specs.declared.Refusal.the-variants.{BadSetup, BadState, NoThr
 use Rattle.machine.specs.declared.Ran.{Ran}
 use Rattle.machine.specs.Step.{After, once, stepOf, isIdle}
 use Rattle.rows.specs.Rows.{sizesGood, allGood, recordAt}
-use Rattle.table.specs.declared.TableStep.{TableStep}
+use Rattle.tabled.specs.declared.TableStep.{TableStep}
 
 -- what the entry gives back, and both lent parts at its exit
 pub record TableAfter : Type 0 where

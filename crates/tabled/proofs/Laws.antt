@@ -17,9 +17,9 @@ use Rattle.machine.specs.declared.Tested.the-variants.{Passes}
 use Rattle.machine.specs.Step.{After, isIdle}
 use Rattle.machine.specs.Entry.{tested, stepEntry}
 use Rattle.machine.specs.EntryLaws.{step-idle, step-made}
-use Rattle.table.specs.declared.TableStep.{TableStep}
+use Rattle.tabled.specs.declared.TableStep.{TableStep}
 use Rattle.rows.specs.Rows.{sizesGood, allGood, blank, recordAt}
-use Rattle.table.specs.Table.{refusedTable, given, stored, TableAfter, tableEntry}
+use Rattle.tabled.specs.Table.{refusedTable, given, stored, TableAfter, tableEntry}
 
 -- a record of a table whose records are all good
 good-at : (q : Queue) (ts : List Thread) (n : ℕ) (t : Thread) → n < length ts → allGood q ts ≡ true → recordGood q (getD ts n t) ≡ true
