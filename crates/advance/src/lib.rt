@@ -20,18 +20,19 @@ pub fn advance(q: Queue, pool: &mut [u64], thread: Thread) -> Stepped
     ensures { λ _. ⌜ now (pool .exit) ≡ after (now (pool .entry)) (stepOf q (now (pool .entry)) thread .touch) ⌝ }
 {
     let call = thread.call;
+    let made;
     match call {
-        Call::Idle => Stepped {
-            queue: q,
-            thread,
-            answer: Answer::Open,
-        },
-        Call::Push(line) => {
-            let made = push::step(q, pool, line);
-            state::settle(thread, made)
+        Call::Idle => {
+            return Stepped {
+                queue: q,
+                thread,
+                answer: Answer::Open,
+            };
         }
-        Call::Steal(line) => steal::step(q, pool, thread, line),
-        Call::Length(line) => state::settle(thread, count::length(q, line)),
-        Call::Empty(line) => state::settle(thread, count::empty(q, line)),
+        Call::Push(line) => made = push::step(q, pool, line),
+        Call::Steal(line) => return steal::step(q, pool, thread, line),
+        Call::Length(line) => made = count::length(q, line),
+        Call::Empty(line) => made = count::empty(q, line),
     }
+    state::settle(thread, made)
 }
