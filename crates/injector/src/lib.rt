@@ -1,5 +1,6 @@
-// The public entries of the Injector, over the shared words and one thread record by value and the pool's
-// lent words. None asks anything of its caller: bad input is refused by number, and a refused entry changes nothing.
+// The public entries of the Injector, over the shared words and one thread record by value and the pool's lent words,
+// and the step entry over a lent table of records. None asks anything of its caller: bad input is refused by number,
+// and a refused entry changes nothing.
 pub use audit::audit;
 pub use begin::begin;
 pub use machine::Audited;
@@ -16,3 +17,5 @@ pub use run::run;
 pub use start::idle_thread;
 pub use start::setup;
 pub use step::step;
+pub use table::TableStep;
+pub use table::step_table;

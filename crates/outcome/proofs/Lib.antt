@@ -14,6 +14,7 @@ pub mod State
 pub mod Calls
 pub mod List
 pub mod Machine
+pub mod Loading
 pub mod Ticket
 pub mod Deliver
 pub mod Claims

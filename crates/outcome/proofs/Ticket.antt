@@ -4,12 +4,6 @@ use Rattle.outcome.specs.One.{One}
 use Rattle.outcome.proofs.Equations.{both, first, later}
 use Rattle.ticket.proofs as ticket
 
-pub p1 : One ticket.p1.ended ticket.p1.Reads.Learnt
-p1 _ _ _ _ _ _ p q = (both p q, refl)
-
-pub p2 : One ticket.p2.ended ticket.p2.Reads.Learnt
-p2 _ _ _ _ _ _ p q = (both p q, refl)
-
 pub p3 : One ticket.p3.ended ticket.p3.Reads.Learnt
 p3 _ _ _ _ _ _ p q = (both (p .0) (q .0), later (first (both (p .1) (q .1))))
 

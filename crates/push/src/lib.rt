@@ -19,8 +19,8 @@ pub fn step(q: Queue, pool: &mut [u64], line: PushLine) -> Made
     ensures { λ _. ⌜ now (pool .exit) ≡ after (now (pool .entry)) (spec.push q (now (pool .entry)) line .touch) ⌝ }
 {
     match line {
-        PushLine::P1(token, held) => ticket::p1(q, token, held),
-        PushLine::P2(token, t, held) => ticket::p2(q, token, t, held),
+        PushLine::P1(token, held) => loading::p1(q, token, held),
+        PushLine::P2(token, t, held) => loading::p2(q, token, t, held),
         PushLine::P3(token, t, b) => ticket::p3(q, pool, token, t, b),
         PushLine::P4(token, t, b, held) => ticket::p4(q, token, t, b, held),
         PushLine::P5(token, t, b, held) => deliver::p5(q, token, t, b, held),

@@ -1,4 +1,4 @@
-// P1 to P4: from the load of the tail to the ticket.
+// P3 and P4: a block taken where one will be needed, and the ticket.
 use index::BLOCK_CAP;
 use index::Index;
 use machine::ends;
@@ -14,36 +14,6 @@ ghost use Prim.Native.Nat.{_*_, _≤_};
 ghost use Rattle.index.specs.Position.{position};
 ghost use Rattle.memory.specs.Touch.{after};
 ghost use Rattle.machine.specs.Push as spec;
-
-pub fn p1(q: Queue, token: u64, held: MaybeBlock) -> Made
-    ensures { λ r. ⌜ r ≡ spec.p1 q token held .made ⌝ }
-{
-    let t = q.tail;
-    to(q, PushLine::P2(token, t, held))
-}
-
-pub fn p2(q: Queue, token: u64, t: Index, held: MaybeBlock) -> Made
-    ensures { λ r. ⌜ r ≡ spec.p2 q token t held .made ⌝ }
-{
-    let b = q.tail_block;
-    let offset = t.offset();
-    if offset == BLOCK_CAP {
-        return to(q, PushLine::P1(token, held));
-    }
-    if q.ceiling <= t.lap() {
-        return match held {
-            MaybeBlock::Nothing => ends(q, Answer::Refused(Refusal::Spent)),
-            MaybeBlock::Block(x) => to(q, PushLine::P10(x, true)),
-        };
-    }
-    if offset == BLOCK_CAP - 1 {
-        return match held {
-            MaybeBlock::Nothing => to(q, PushLine::P3(token, t, b)),
-            MaybeBlock::Block(_) => to(q, PushLine::P4(token, t, b, held)),
-        };
-    }
-    to(q, PushLine::P4(token, t, b, held))
-}
 
 pub fn p3(q: Queue, pool: &mut [u64], token: u64, t: Index, b: u64) -> Made
     ensures { λ r. ⌜ r ≡ spec.p3 q (now (pool .entry)) token t b .made ⌝ }

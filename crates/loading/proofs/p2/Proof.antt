@@ -1,8 +1,8 @@
 use borrow.Author.Needs.{needs}
 use borrow.Author.Tests.{eq-eqb, ne-eqb, le-leb, lt-leb}
 use Rattle.machine.specs.Push.{p2}
-use Rattle.ticket.proofs.p2.Statement.{statement}
-use Rattle.ticket.proofs.p2.Tie as tie
+use Rattle.loading.proofs.p2.Statement.{statement}
+use Rattle.loading.proofs.p2.Tie as tie
 
 offset-requires : tie.Need-offset-requires
 offset-requires c κs = search needs
