@@ -15,7 +15,7 @@ ghost use Rattle.text.specs.Print.{Wrote, badBytes, endBytes};
 ghost use mathlib.Core.List.{_++_};
 ghost use Rattle.log.specs.Replay.{over, queueLine, firstLine, lineOf};
 
-fn bad_first(replay: Replay, read: usize, out: &mut [u8]) -> Fed
+fn bad_first(mut replay: Replay, read: usize, out: &mut [u8]) -> Fed
     requires { ⌜ 256 ≤ length (now out) ⌝ }
     ensures { λ r. ⌜ r .replay ≡ over replay ⌝ }
     ensures { λ r. ⌜ r .read ≡ read ⌝ }
@@ -23,7 +23,7 @@ fn bad_first(replay: Replay, read: usize, out: &mut [u8]) -> Fed
     ensures { λ r. ⌜ r .written ≤ 256 ⌝ }
 {
     let written = say_bad(out, 0, replay.number, replay.steps);
-    let replay = over(replay);
+    replay = over(replay);
     Fed {
         replay,
         read,
@@ -33,7 +33,7 @@ fn bad_first(replay: Replay, read: usize, out: &mut [u8]) -> Fed
 
 // A queue line: counts out of range are echoed and refused, else the queue is set up.
 fn open_queue(
-    replay: Replay,
+    mut replay: Replay,
     read: usize,
     threads: u64,
     blocks: u64,
@@ -52,7 +52,7 @@ fn open_queue(
     let written = print::put_queue(out, 0, threads, blocks, ceiling);
     if !list::counts_good(threads, blocks, ceiling) {
         let written = say_refused(out, written);
-        let replay = over(replay);
+        replay = over(replay);
         return Fed {
             replay,
             read,
@@ -62,7 +62,7 @@ fn open_queue(
     let used = words(blocks, pool.len());
     let started = start::setup(threads, blocks, ceiling, &mut pool[..used]);
     let queue = started.queue;
-    let replay = opened(replay, queue);
+    replay = opened(replay, queue);
     Fed {
         replay,
         read,
