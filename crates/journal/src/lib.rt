@@ -57,7 +57,7 @@ fn holding(replay: Replay, line: [u8; 80], held: u64) -> Replay
 
 // Line 1 is whole: it opens the queue or ends the replay, and what follows it in the piece is fed.
 fn first_whole(
-    replay: Replay,
+    mut replay: Replay,
     line: [u8; 80],
     held: u64,
     read: usize,
@@ -72,12 +72,13 @@ fn first_whole(
     ensures { λ r. ⌜ Came (now (piece .entry)) (record { queue = replay .queue; threads = replay .threads; line = line; held = held; number = replay .number; steps = replay .steps; stage = First }) (now (pool .entry)) read (now (out .entry)) 0 r (now (pool .exit)) (now (out .exit)) ⌝ }
 {
     let next = read + 1;
-    let first = open_line(holding(replay, line, held), next, pool, out);
+    replay = holding(replay, line, held);
+    let first = open_line(replay, next, pool, out);
     go_on(first, pool, piece, out)
 }
 
 // Line 1, and what follows it.
-fn feed_first(replay: Replay, pool: &mut [u64], piece: &[u8], out: &mut [u8]) -> Fed
+fn feed_first(mut replay: Replay, pool: &mut [u64], piece: &[u8], out: &mut [u8]) -> Fed
     requires { ⌜ replay .stage ≡ First ⌝ }
     requires { ⌜ 4096 ≤ length (now pool) ⌝ }
     ensures { λ r. ⌜ Came (now (piece .entry)) replay (now (pool .entry)) 0 (now (out .entry)) 0 r (now (pool .exit)) (now (out .exit)) ⌝ }
@@ -96,7 +97,8 @@ fn feed_first(replay: Replay, pool: &mut [u64], piece: &[u8], out: &mut [u8]) ->
         held = hold(&mut line, held, byte);
         read += 1;
     }
-    gave(holding(replay, line, held), read, 0)
+    replay = holding(replay, line, held);
+    gave(replay, read, 0)
 }
 
 // Reads bytes from the front of the piece while the buffer has room, and writes what they make at its front. What is

@@ -32,9 +32,9 @@ fn waited(q: Queue, pool: &[u64], thread: Thread, left: u64, budget: u64) -> Ran
 {
     let ring = thread.ring;
     let taken = thread.taken;
-    let call = thread.call;
+    let mut call = thread.call;
     let wait = wait::wait_of(q, pool, call);
-    let call = wait::waited_call(call, wait, left);
+    call = wait::waited_call(call, wait, left);
     Ran {
         queue: q,
         thread: Thread { ring, call, taken },
