@@ -1,4 +1,4 @@
-// What the test programs print with: labels, numbers and answers, to standard output.
+// What the test program prints with: labels, numbers and answers, to standard output.
 use libc::STDOUT_FILENO;
 use state::Answer;
 use state::Refusal;
@@ -28,7 +28,7 @@ pub fn numbered_line(word: &[u8], n: u64) {
 }
 
 pub fn refused(refusal: Refusal) {
-    numbered(b"refused ", refusal_number(refusal));
+    numbered(b" -> refused ", refusal_number(refusal));
 }
 
 pub fn refused_line(word: &[u8], refusal: Refusal) {
@@ -39,23 +39,21 @@ pub fn refused_line(word: &[u8], refusal: Refusal) {
 
 pub fn answer(answer: Answer) {
     match answer {
-        Answer::Open => text(b"open"),
-        Answer::Pushed => text(b"pushed"),
-        Answer::Task(token) => numbered(b"task ", token),
-        Answer::Moved => text(b"moved"),
-        Answer::Empty => text(b"empty"),
-        Answer::Retry => text(b"retry"),
-        Answer::Len(n) => numbered(b"len ", n),
-        Answer::Yes => text(b"yes"),
-        Answer::No => text(b"no"),
+        Answer::Open => text(b" -> open"),
+        Answer::Pushed => text(b" -> pushed"),
+        Answer::Task(token) => numbered(b" -> task ", token),
+        Answer::Moved => text(b" -> moved"),
+        Answer::Empty => text(b" -> empty"),
+        Answer::Retry => text(b" -> retry"),
+        Answer::Len(n) => numbered(b" -> len ", n),
+        Answer::Yes => text(b" -> yes"),
+        Answer::No => text(b" -> no"),
         Answer::Refused(refusal) => refused(refusal),
     }
 }
 
-// What a thread's step or run answered, and the steps that it took.
-pub fn stepped(thread: u64, word: Answer, steps: u64) {
-    numbered(b"  thread ", thread);
-    text(b": ");
+// What a step answered, and the steps that it took.
+pub fn stepped(word: Answer, steps: u64) {
     answer(word);
-    numbered_line(b", steps ", steps);
+    numbered(b", steps ", steps);
 }

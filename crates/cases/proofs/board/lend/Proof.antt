@@ -1,4 +1,4 @@
--- `records::lend` meets its contract: a walk of its MIR, by hand. It owns the table, a local array; the front of its row is lent to
+-- `cases::lend` meets its contract: a walk of its MIR, by hand. It owns the table, a local array; the front of its row is lent to
 -- `step_table` for a lifetime that the walk makes and ends, comes back, and is put before the rest, and the row is an array again.
 use Rattle.tables.proofs.Prelude.{_≡_, refl, _∙_, ap, ℕ, _<_, _≤_, _^_, _+_, _-_, _*_, List, [], _∷_, length, URA, fullShare, named, w64, Val, vint, SProp, ent, sep, id⊢, Lft, GName, Share, ftrue, flft, Memory, Routine, Heap, Calls, Loops, WpFn, Atoms, sem, FmC, fmOf, Fun, givenOf}
 use Rattle.tables.proofs.Prelude.{Given, ‵, _⊛_, ⋆, _$_, _∵_, !, qed, by, move, keep, drop, use1, split, join, group, fsplit, fjoin, suffices, frame, done, agg, whole, sub, look-in, look, init, stop, hop, fld, from, load, addr, of-opd, and-then, no-more, assigns, land, returns, params1, pass1, pass0}
@@ -17,20 +17,20 @@ use Rattle.state.specs.declared.Queue.{Queue}
 use Rattle.state.specs.declared.Thread.{Thread}
 use Rattle.state.proofs.Queue as Queue′
 use Rattle.state.proofs.Thread as Thread′
-use Rattle.table.specs.declared.TableStep.{TableStep}
-use Rattle.table.specs.Table.{TableAfter, tableEntry}
+use Rattle.tabled.specs.declared.TableStep.{TableStep}
+use Rattle.tabled.specs.Table.{TableAfter, tableEntry}
 use Rattle.rows.proofs.Plain.{queue-data, thread-data}
 use Rattle.table.proofs.Plain.{table-step-data}
 use Rattle.table.proofs.step_table as step
 use Rattle.table.proofs.step_table.Symbol as step-def
 use Rattle.table.proofs.step_table.Symbol.{name as #table·step-table}
 use Rattle.table.proofs.step_table.Met as step-thm
-use Rattle.records.specs.declared.board.Lent.{Lent}
-use Rattle.records.proofs.Part.{past, cut-at, glue-at, all-known, lent-data, lent-ok}
-use Rattle.records.proofs.board.lend.Key.{name as #records·board·lend}
-use Rattle.records.proofs.board.lend as lend
-use Rattle.records.proofs.board.lend.Statement as stated
-use Rattle.records.proofs.board.lend.Code as code
+use Rattle.cases.specs.declared.board.Lent.{Lent}
+use Rattle.cases.proofs.Part.{past, cut-at, glue-at, all-known, lent-data, lent-ok}
+use Rattle.cases.proofs.board.lend.Key.{name as #cases·board·lend}
+use Rattle.cases.proofs.board.lend as lend
+use Rattle.cases.proofs.board.lend.Statement as stated
+use Rattle.cases.proofs.board.lend.Code as code
 
 abbrev params : ParamsOf lend.ended
 params = (by-value queue-data, (by-value (uint-data w64), (by-value (array-data thread-data 8), (lent-mut 0 tt u64, (by-value (uint-data w64), tt)))))
@@ -134,7 +134,7 @@ front-room n ts few e = let f : length (take n ts) ≡ n = front-length n ts few
 pub lend-spec : {M : Type 1} → stated.statement M
 unfolding code.routine
 lend-spec 𝓤 H 𝓜 𝓖 𝓡 =
-    proved 𝓤 H 𝓜 𝓖 𝓡 lend.ended params (lend.clauses 𝓤 H (𝓖 .A) (𝓜 .mem) (𝓡 .run)) code.env #records·board·lend code.function (code.unfolded 𝓤 H 𝓜 𝓡)
+    proved 𝓤 H 𝓜 𝓖 𝓡 lend.ended params (lend.clauses 𝓤 H (𝓖 .A) (𝓜 .mem) (𝓡 .run)) code.env #cases·board·lend code.function (code.unfolded 𝓤 H 𝓜 𝓡)
     (λ κs qs bounds a g are. needs 𝓤 (a .1 .0 ≤ 8) _ (λ few.
     walk 𝓤 H (𝓖 .A) (givenOf 𝓤 H 𝓜 𝓖) (𝓜 .mem) (𝓡 .run) (κs .0) (qs .0) (a .0) (a .1 .0) (a .1 .1 .0) (a .1 .1 .1 .0 .ptr .0) (a .1 .1 .1 .0 .ptr .1) (a .1 .1 .1 .0 .name) (a .1 .1 .1 .0 .now) (a .1 .1 .1 .1 .0)
     (tablesAt 𝓤 H 𝓜 𝓖 𝓡 code.env .C) (tablesAt 𝓤 H 𝓜 𝓖 𝓡 code.env .Λ) (fmOf 𝓤 H (givenOf 𝓤 H 𝓜 𝓖 .laws) (tablesAt 𝓤 H 𝓜 𝓖 𝓡 code.env))

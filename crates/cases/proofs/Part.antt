@@ -25,9 +25,9 @@ use Rattle.table.proofs.Plain.{table-step-data}
 use Rattle.state.specs.declared.Thread as Thread-spec
 use Rattle.state.proofs.Thread as Thread
 use Rattle.state.proofs.Thread.Laws as Thread′
-use Rattle.records.specs.declared.board.Lent as Lent-spec
-use Rattle.records.proofs.board.Lent as Lent
-use Rattle.records.proofs.board.Lent.Laws as Lent′
+use Rattle.cases.specs.declared.board.Lent as Lent-spec
+use Rattle.cases.proofs.board.Lent as Lent
+use Rattle.cases.proofs.board.Lent.Laws as Lent′
 
 module _ {M : Type 1} (𝓤 : URA M) (H : Heap 𝓤) (A : Atoms 𝓤) (W : Given 𝓤 H A) (R : RattleType) where
   -- where the element after n others lies
