@@ -1,94 +1,74 @@
 // A log fed in pieces: no cut may change a byte of what comes out.
-use journal::Fed;
-use journal::Replay;
+
+// The words of the largest pool: 32 blocks of 128.
+const POOL_WORDS: usize = 4096;
 
 // A longer log is cut at its first bytes only, or the gate would wait for it.
 const MOST_CUTS: usize = 600;
 
-// Feeds a piece to the replay, into the buffer from a place on, and answers the replay and the next place; `whole` is
-// false where not all of it was read.
-struct Reached {
-    replay: Replay,
-    at: usize,
-    whole: bool,
+// A place past all that is owed: something else came out.
+const LOST: usize = 18446744073709551615;
+
+// So many bytes came out where `at` bytes of what is owed had come before. Answers the next place.
+fn owed(out: &[u8], written: usize, expected: &[u8], at: usize) -> usize {
+    if expected.len() < at {
+        return LOST;
+    }
+    if expected.len() - at < written {
+        return LOST;
+    }
+    if out.len() < written {
+        return LOST;
+    }
+    let next = at + written;
+    if check::same(&out[0..written], &expected[at..next]) {
+        return next;
+    }
+    LOST
 }
 
-// After a feed into the `all` bytes of the buffer from `at` on, of a piece of `len` bytes.
-fn moved(fed: Fed, at: usize, all: usize, len: usize, whole: bool) -> Reached {
-    let replay = fed.replay;
-    if all < at || all - at < fed.written || fed.read < len {
-        return Reached {
-            replay,
-            at,
-            whole: false,
-        };
-    }
-    Reached {
-        replay,
-        at: all - (all - at - fed.written),
-        whole,
-    }
-}
-
-// A place past the buffer is told at the end (`ends_as`).
-fn feed_at(reached: Reached, pool: &mut [u64], piece: &[u8], out: &mut [u8]) -> Reached {
-    let at = reached.at;
-    let all = out.len();
-    if all < at {
-        return reached;
-    }
-    let replay = reached.replay;
-    let fed = journal::feed(replay, pool, piece, &mut out[at..]);
-    moved(fed, at, all, piece.len(), reached.whole)
-}
-
-fn same_front(out: &[u8], end: usize, expected: &[u8]) -> bool {
-    end <= out.len() && check::same(&out[..end], expected)
-}
-
-// The last lines, and whether all that came out is what is owed.
-fn ends_as(reached: Reached, expected: &[u8], out: &mut [u8]) -> bool {
-    let at = reached.at;
-    let all = out.len();
-    if !reached.whole || all < at {
-        return false;
-    }
-    let room = all - at;
-    let replay = reached.replay;
-    let written = journal::finish(replay, &mut out[at..]);
-    if room < written {
-        return false;
-    }
-    same_front(out, all - (room - written), expected)
-}
-
-fn start() -> Reached {
-    let replay = journal::new();
-    Reached {
-        replay,
-        at: 0,
-        whole: true,
-    }
-}
-
-fn same_cut(log: &[u8], cut: usize, expected: &[u8], pool: &mut [u64], out: &mut [u8]) -> bool {
+// The log's bytes before the cut are the first piece, and those behind it each other one.
+fn same_cut(
+    log: &[u8],
+    cut: usize,
+    pieces: u64,
+    expected: &[u8],
+    pool: &mut [u64],
+    out: &mut [u8],
+) -> bool {
     if log.len() < cut {
         return false;
     }
-    let reached = start();
-    let reached = feed_at(reached, pool, &log[..cut], out);
-    let reached = feed_at(reached, pool, &log[cut..], out);
-    ends_as(reached, expected, out)
+    let mut replay = journal::new();
+    let mut at = 0;
+    let mut start = 0;
+    let mut end = cut;
+    let mut left = pieces;
+    while left > 0 {
+        let fed = journal::feed(replay, pool, &log[start..end], out);
+        if fed.read < end - start {
+            return false;
+        }
+        at = owed(out, fed.written, expected, at);
+        replay = fed.replay;
+        start = cut;
+        end = log.len();
+        left -= 1;
+    }
+    let written = journal::finish(replay, out);
+    owed(out, written, expected, at) == expected.len()
 }
 
 // Whole, and cut in two after each byte.
-pub(crate) fn all_same(log: &[u8], expected: &[u8], pool: &mut [u64], out: &mut [u8]) -> bool {
+pub(crate) fn all_same(log: &[u8], expected: &[u8]) -> bool {
+    let mut pool = [0u64; POOL_WORDS];
+    let mut out = io::large_buffer();
     let mut cut = 0;
     while cut < MOST_CUTS {
         if log.len() < cut {
             return true;
         }
-        if !same_cut(log, cut, expected, pool, out) {
+        if !same_cut(log, cut, 2, expected, &mut pool, &mut out) {
             return false;
         }
         cut += 1;
@@ -96,27 +76,18 @@ pub(crate) fn all_same(log: &[u8], expected: &[u8], pool: &mut [u64], out: &mut 
     true
 }
 
-fn feed_often(
-    reached: Reached,
-    times: u64,
-    pool: &mut [u64],
-    piece: &[u8],
-    out: &mut [u8],
-) -> Reached {
-    let mut now = reached;
-    let mut left = times;
-    while left > 0 {
-        now = feed_at(now, pool, piece, out);
-        left -= 1;
-    }
-    now
-}
-
 // Line 2 is longer than any buffer and has no line feed.
-pub(crate) fn long_line_same(pool: &mut [u64], out: &mut [u8]) -> bool {
-    let bytes = io::large_buffer();
-    let reached = start();
-    let reached = feed_at(reached, pool, b"queue\t1\t2\t1\n", out);
-    let reached = feed_often(reached, 16, pool, &bytes, out);
-    ends_as(reached, b"queue\t1\t2\t1\n2\tbad\nend\t0\n", out)
+pub(crate) fn long_line_same() -> bool {
+    let mut pool = [0u64; POOL_WORDS];
+    let mut out = io::large_buffer();
+    let mut log = io::large_buffer();
+    let cut = bytes::copy(b"queue\t1\t2\t1\n", &mut log);
+    same_cut(
+        &log,
+        cut,
+        17,
+        b"queue\t1\t2\t1\n2\tbad\nend\t0\n",
+        &mut pool,
+        &mut out,
+    )
 }

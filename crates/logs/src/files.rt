@@ -4,11 +4,8 @@
 const MISSING: usize = 18446744073709551615;
 
 // Reads the file into the front of the buffer, and answers how many bytes it has.
-pub(crate) fn read(path: &[u8], length: usize, buffer: &mut [u8]) -> usize {
-    if path.len() < length {
-        return MISSING;
-    }
-    let fd = os::open_read(&path[..length]);
+pub(crate) fn read(path: &[u8], buffer: &mut [u8]) -> usize {
+    let fd = os::open_read(path);
     if fd < 0 {
         return MISSING;
     }
@@ -24,11 +21,12 @@ fn put(path: &mut [u8], at: usize, byte: u8) {
 }
 
 // NAME.log becomes NAME.out.
-pub(crate) fn name_output(path: &mut [u8], length: usize) {
-    if length < 3 {
+pub(crate) fn name_output(path: &mut [u8]) {
+    let n = path.len();
+    if n < 3 {
         return;
     }
-    put(path, length - 3, b'o');
-    put(path, length - 2, b'u');
-    put(path, length - 1, b't');
+    put(path, n - 3, b'o');
+    put(path, n - 2, b'u');
+    put(path, n - 1, b't');
 }

@@ -1,14 +1,20 @@
 // How the machine stands.
-use crate::prints;
+use crate::feeds;
 use crate::stands;
 use journal::Replay;
 use memory::MaybeBlock;
 use ring::Flavor;
 use ring::Ring;
-use state::Call;
 use state::Queue;
-use state::Thread;
 ghost use Prim.Native.Nat.{_≤_};
+
+fn row(numbers: &[u64], count: u64) {
+    let mut i: usize = 0;
+    while i < numbers.len() && (i as u64) < count {
+        say::numbered(b"\t", numbers[i]);
+        i += 1;
+    }
+}
 
 fn one_if_taken(pool: &[u64], block: u64) -> u64
     ensures { λ r. ⌜ r ≤ 1 ⌝ }
@@ -29,137 +35,113 @@ fn blocks_taken(pool: &[u64], blocks: u64) -> u64 {
     taken
 }
 
-fn shared(out: &mut [u8], at: usize, queue: Queue) -> usize {
+// The steps made, the shared words, the blocks taken and the tokens in the ring.
+fn show_words(steps: u64, queue: Queue, pool: &[u64], count: u64) {
     let head = queue.head;
     let tail = queue.tail;
-    let at = prints::tab_number(out, at, head.raw);
-    let at = prints::tab_number(out, at, queue.head_block);
-    let at = prints::tab_number(out, at, tail.raw);
-    prints::tab_number(out, at, queue.tail_block)
-}
-
-// A number that names no thread stands for one that is idle.
-pub(crate) fn record(threads: [Thread; 8], number: u64) -> Thread {
-    if number < 8 {
-        let place = number as usize;
-        return threads[place];
-    }
-    injector::idle_thread(Flavor::Fifo)
-}
-
-// The line's number, the thread, where its call stands, and the steps made.
-pub(crate) fn command_names(
-    out: &mut [u8],
-    line: u64,
-    number: u64,
-    call: Call,
-    steps: u64,
-) -> usize {
-    let at = prints::put(out, 0, 35);
-    let at = prints::tab_number(out, at, line);
-    let at = prints::tab_number(out, at, number);
-    let at = stands::line_name(out, at, call);
-    prints::tab_number(out, at, steps)
-}
-
-// The shared words, the blocks taken and the tokens in the ring.
-pub(crate) fn command_words(out: &mut [u8], from: usize, queue: Queue, pool: &[u64], count: u64) {
     let taken = blocks_taken(pool, queue.blocks);
-    let at = shared(out, from, queue);
-    let at = prints::tab_number(out, at, taken);
-    let at = prints::tab_number(out, at, count);
-    let at = prints::put(out, at, 10);
-    prints::write(out, at);
+    let words = [
+        steps,
+        head.raw,
+        queue.head_block,
+        tail.raw,
+        queue.tail_block,
+        taken,
+    ];
+    row(&words, 6);
+    say::numbered_line(b"\t", count);
 }
 
-fn states(out: &mut [u8], at: usize, pool: &[u64], block: u64) -> usize {
-    let mut end = at;
-    let mut slot: u64 = 0;
-    while slot < 63 {
-        end = prints::number(out, end, memory::state(pool, block, slot));
-        slot += 1;
+// Where line `number` was a command, what the thread and the shared words came to. Only a command changes the number of the
+// next line.
+pub(crate) fn command(replay: Replay, pool: &[u64], number: u64, thread: u64) {
+    if number == 1 {
+        return;
     }
-    end
-}
-
-fn tokens(out: &mut [u8], at: usize, pool: &[u64], block: u64) -> usize {
-    let mut end = at;
-    let mut slot: u64 = 0;
-    while slot < 63 {
-        end = prints::tab_number(out, end, memory::token(pool, block, slot));
-        slot += 1;
+    if replay.number == number {
+        return;
     }
-    end
+    let stand = stands::of_thread(replay, thread);
+    let queue = replay.queue;
+    say::numbered(b"#\t", number);
+    say::numbered(b"\t", thread);
+    stands::show_line(stand.line);
+    show_words(replay.steps, queue, pool, stand.count);
 }
 
-fn next_block(out: &mut [u8], at: usize, next: MaybeBlock) -> usize {
+fn show_next(next: MaybeBlock) {
     match next {
-        MaybeBlock::Nothing => prints::put(out, at, 45),
-        MaybeBlock::Block(block) => prints::number(out, at, block),
+        MaybeBlock::Nothing => say::text(b"\t-"),
+        MaybeBlock::Block(block) => say::numbered(b"\t", block),
     }
 }
 
-fn block_names(out: &mut [u8], pool: &[u64], block: u64) -> usize {
-    let at = prints::bytes(out, 0, b"#block");
-    let at = prints::tab_number(out, at, block);
-    let at = prints::put(out, at, 9);
-    let at = next_block(out, at, memory::next(pool, block));
-    prints::put(out, at, 9)
+fn states(pool: &[u64], block: u64) {
+    let mut slot: u64 = 0;
+    while slot < 63 {
+        say::number(memory::state(pool, block, slot));
+        slot += 1;
+    }
 }
 
-fn show_block(pool: &[u64], block: u64, out: &mut [u8]) {
+fn tokens(pool: &[u64], block: u64) {
+    let mut slot: u64 = 0;
+    while slot < 63 {
+        say::numbered(b"\t", memory::token(pool, block, slot));
+        slot += 1;
+    }
+}
+
+fn show_block(pool: &[u64], block: u64) {
     if memory::is_free(pool, block) {
         return;
     }
-    let at = block_names(out, pool, block);
-    let at = states(out, at, pool, block);
-    let at = tokens(out, at, pool, block);
-    let at = prints::put(out, at, 10);
-    prints::write(out, at);
+    say::numbered(b"#block\t", block);
+    show_next(memory::next(pool, block));
+    say::text(b"\t");
+    states(pool, block);
+    tokens(pool, block);
+    say::text(b"\n");
 }
 
-fn show_blocks(pool: &[u64], blocks: u64, out: &mut [u8]) {
+fn show_blocks(pool: &[u64], blocks: u64) {
     let mut block: u64 = 0;
     while block < blocks {
-        show_block(pool, block, out);
+        show_block(pool, block);
         block += 1;
     }
 }
 
-// From front to back.
-fn ring_tokens(out: &mut [u8], at: usize, ring: Ring) -> usize {
-    let tokens = ring.tokens;
-    let mut end = at;
-    let mut i: usize = 0;
-    while i < 64 && (i as u64) < ring.count {
-        end = prints::tab_number(out, end, tokens[i]);
-        i += 1;
+// A number that names no thread stands for one with an empty ring.
+fn ring_of(replay: Replay, number: u64) -> Ring {
+    if 8 <= number {
+        return Ring::new(Flavor::Fifo);
     }
-    end
+    let thread = stands::record(replay, number as usize);
+    thread.ring
 }
 
-fn show_ring(number: u64, thread: Thread, out: &mut [u8]) {
-    let at = prints::bytes(out, 0, b"#ring");
-    let at = prints::tab_number(out, at, number);
-    let ring = thread.ring;
-    let at = ring_tokens(out, at, ring);
-    let at = prints::put(out, at, 10);
-    prints::write(out, at);
+// The tokens from front to back.
+fn show_ring(number: u64, ring: Ring) {
+    let tokens = ring.tokens;
+    say::numbered(b"#ring\t", number);
+    row(&tokens, ring.count);
+    say::text(b"\n");
 }
 
-fn show_rings(threads: [Thread; 8], count: u64, out: &mut [u8]) {
+fn show_rings(replay: Replay, count: u64) {
     let mut number: u64 = 0;
     while number < count {
-        let thread = record(threads, number);
-        show_ring(number, thread, out);
+        show_ring(number, ring_of(replay, number));
         number += 1;
     }
 }
 
-// The blocks that are taken, and the rings. A queue that was not set up has neither.
+// The last lines of the replay, the blocks that are taken, and the rings. A queue that was not set up has neither.
 pub(crate) fn at_end(replay: Replay, pool: &[u64], out: &mut [u8]) {
     let queue = replay.queue;
-    show_blocks(pool, queue.blocks, out);
-    let threads = replay.threads;
-    show_rings(threads, queue.threads, out);
+    let written = journal::finish(replay, out);
+    feeds::write(out, written);
+    show_blocks(pool, queue.blocks);
+    show_rings(replay, queue.threads);
 }

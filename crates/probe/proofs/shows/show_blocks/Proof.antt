@@ -1,19 +1,16 @@
 use borrow.Author.Needs.{needs}
 use Prim.Native.Nat.{_≤_, _-_}
-use mathlib.Core.Path.{_≡_, refl, _∙_, sym}
-use native.Mathlib.Omega.{arith}
-use lib.ListN.{length}
 use Rattle.probe.proofs.shows.show_blocks.Statement.{statement}
 use Rattle.probe.proofs.shows.show_blocks.Tie as tie
 
 abbrev Inv-loop : tie.InvT-loop
-Inv-loop pool blocks out₀ block₀ out block = (block ≤ blocks) × (length out ≡ length out₀)
+Inv-loop pool blocks block₀ block = block ≤ blocks
 
 abbrev μ-loop : tie.MeasureT-loop
-μ-loop pool blocks out₀ block₀ out block = blocks - block
+μ-loop pool blocks block₀ block = blocks - block
 
 loop-holds : tie.Need-loop-holds Inv-loop μ-loop
-loop-holds c = (omega arith, refl)
+loop-holds c = search needs
 
 show-block-requires : tie.Need-show-block-requires Inv-loop μ-loop
 show-block-requires c κs = search needs
@@ -25,10 +22,7 @@ loop-less : tie.Need-loop-less Inv-loop μ-loop
 loop-less c = search needs
 
 loop-again : tie.Need-loop-again Inv-loop μ-loop
-loop-again c = (omega arith, c .before .before .show-block .kept .1 .1 .0 ∙ c .before .before .before .before .before .loop .inv .1)
-
-same-length : tie.Need-same-length Inv-loop μ-loop
-same-length c = c .before .loop .inv .1
+loop-again c = search needs
 
 returns : tie.Need-returns Inv-loop μ-loop
 returns c = search needs
@@ -44,5 +38,4 @@ show-blocks-spec =
     add-block
     loop-less
     loop-again
-    same-length
     returns)

@@ -1,22 +1,19 @@
 use borrow.Author.Needs.{needs}
 use Prim.Native.Nat.{_≤_, _-_}
-use mathlib.Core.Path.{_≡_, refl, _∙_, sym}
-use native.Mathlib.Omega.{arith}
-use lib.ListN.{length}
 use Rattle.probe.proofs.shows.show_rings.Statement.{statement}
 use Rattle.probe.proofs.shows.show_rings.Tie as tie
 
 abbrev Inv-loop : tie.InvT-loop
-Inv-loop threads count out₀ number₀ out number = (number ≤ count) × (length out ≡ length out₀)
+Inv-loop replay count number₀ number = number ≤ count
 
 abbrev μ-loop : tie.MeasureT-loop
-μ-loop threads count out₀ number₀ out number = count - number
+μ-loop replay count number₀ number = count - number
 
 loop-holds : tie.Need-loop-holds Inv-loop μ-loop
-loop-holds c = (omega arith, refl)
+loop-holds c = search needs
 
-record-requires : tie.Need-record-requires Inv-loop μ-loop
-record-requires c κs = search needs
+ring-of-requires : tie.Need-ring-of-requires Inv-loop μ-loop
+ring-of-requires c κs = search needs
 
 show-ring-requires : tie.Need-show-ring-requires Inv-loop μ-loop
 show-ring-requires c κs = search needs
@@ -28,10 +25,7 @@ loop-less : tie.Need-loop-less Inv-loop μ-loop
 loop-less c = search needs
 
 loop-again : tie.Need-loop-again Inv-loop μ-loop
-loop-again c = (omega arith, c .before .before .show-ring .kept .1 .1 .0 ∙ c .before .before .before .before .before .before .loop .inv .1)
-
-same-length : tie.Need-same-length Inv-loop μ-loop
-same-length c = c .before .loop .inv .1
+loop-again c = search needs
 
 returns : tie.Need-returns Inv-loop μ-loop
 returns c = search needs
@@ -43,10 +37,9 @@ show-rings-spec =
     Inv-loop
     μ-loop
     loop-holds
-    record-requires
+    ring-of-requires
     show-ring-requires
     add-number
     loop-less
     loop-again
-    same-length
     returns)

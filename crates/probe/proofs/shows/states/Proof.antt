@@ -1,19 +1,16 @@
 use borrow.Author.Needs.{needs}
 use Prim.Native.Nat.{_≤_, _-_}
-use mathlib.Core.Path.{_≡_, refl, _∙_, sym}
-use native.Mathlib.Omega.{arith}
-use lib.ListN.{length}
 use Rattle.probe.proofs.shows.states.Statement.{statement}
 use Rattle.probe.proofs.shows.states.Tie as tie
 
 abbrev Inv-loop : tie.InvT-loop
-Inv-loop out₀ at pool block end₀ slot₀ out end slot = (slot ≤ 63) × (length out ≡ length out₀)
+Inv-loop pool block slot₀ slot = slot ≤ 63
 
 abbrev μ-loop : tie.MeasureT-loop
-μ-loop out₀ at pool block end₀ slot₀ out end slot = 63 - slot
+μ-loop pool block slot₀ slot = 63 - slot
 
 loop-holds : tie.Need-loop-holds Inv-loop μ-loop
-loop-holds c = (omega arith, refl)
+loop-holds c = search needs
 
 state-requires : tie.Need-state-requires Inv-loop μ-loop
 state-requires c κs = search needs
@@ -28,10 +25,7 @@ loop-less : tie.Need-loop-less Inv-loop μ-loop
 loop-less c = search needs
 
 loop-again : tie.Need-loop-again Inv-loop μ-loop
-loop-again c = (omega arith, c .before .before .number .kept .0 ∙ c .before .before .before .before .before .before .loop .inv .1)
-
-same-length : tie.Need-same-length Inv-loop μ-loop
-same-length c = c .before .loop .inv .1
+loop-again c = search needs
 
 returns : tie.Need-returns Inv-loop μ-loop
 returns c = search needs
@@ -48,5 +42,4 @@ states-spec =
     add-slot
     loop-less
     loop-again
-    same-length
     returns)

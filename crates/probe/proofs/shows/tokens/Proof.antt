@@ -1,25 +1,25 @@
 use borrow.Author.Needs.{needs}
 use Prim.Native.Nat.{_≤_, _-_}
-use mathlib.Core.Path.{_≡_, refl, _∙_, sym}
-use native.Mathlib.Omega.{arith}
-use lib.ListN.{length}
 use Rattle.probe.proofs.shows.tokens.Statement.{statement}
 use Rattle.probe.proofs.shows.tokens.Tie as tie
 
 abbrev Inv-loop : tie.InvT-loop
-Inv-loop out₀ at pool block end₀ slot₀ out end slot = (slot ≤ 63) × (length out ≡ length out₀)
+Inv-loop pool block slot₀ t4 slot = slot ≤ 63
 
 abbrev μ-loop : tie.MeasureT-loop
-μ-loop out₀ at pool block end₀ slot₀ out end slot = 63 - slot
+μ-loop pool block slot₀ t4 slot = 63 - slot
 
 loop-holds : tie.Need-loop-holds Inv-loop μ-loop
-loop-holds c = (omega arith, refl)
+loop-holds c = search needs
+
+slice-aggregate-numbered : tie.Need-slice-aggregate-numbered Inv-loop μ-loop
+slice-aggregate-numbered c = search needs
 
 token-requires : tie.Need-token-requires Inv-loop μ-loop
 token-requires c κs = search needs
 
-tab-number-requires : tie.Need-tab-number-requires Inv-loop μ-loop
-tab-number-requires c κs = search needs
+numbered-requires : tie.Need-numbered-requires Inv-loop μ-loop
+numbered-requires c κs = search needs
 
 add-slot : tie.Need-add-slot Inv-loop μ-loop
 add-slot c = search needs
@@ -28,10 +28,7 @@ loop-less : tie.Need-loop-less Inv-loop μ-loop
 loop-less c = search needs
 
 loop-again : tie.Need-loop-again Inv-loop μ-loop
-loop-again c = (omega arith, c .before .before .tab-number .kept .0 ∙ c .before .before .before .before .before .before .loop .inv .1)
-
-same-length : tie.Need-same-length Inv-loop μ-loop
-same-length c = c .before .loop .inv .1
+loop-again c = search needs
 
 returns : tie.Need-returns Inv-loop μ-loop
 returns c = search needs
@@ -43,10 +40,10 @@ tokens-spec =
     Inv-loop
     μ-loop
     loop-holds
+    slice-aggregate-numbered
     token-requires
-    tab-number-requires
+    numbered-requires
     add-slot
     loop-less
     loop-again
-    same-length
     returns)

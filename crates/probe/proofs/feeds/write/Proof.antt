@@ -4,8 +4,8 @@ use mathlib.Core.Path.{_≡_, refl, _∙_, sym}
 use native.Mathlib.Omega.{arith}
 use lib.ListN.{length}
 use lib.Seq.{length-take-le}
-use Rattle.probe.proofs.prints.write.Statement.{statement}
-use Rattle.probe.proofs.prints.write.Tie as tie
+use Rattle.probe.proofs.feeds.write.Statement.{statement}
+use Rattle.probe.proofs.feeds.write.Tie as tie
 
 slice-aggregate-write-all : tie.Need-slice-aggregate-write-all
 slice-aggregate-write-all c = sym (length-take-le _ _ (omega arith))
