@@ -22,12 +22,12 @@ fn open(what: Request) -> Call
     ensures { λ r. ⌜ r ≡ opened what ⌝ }
 {
     match what {
-        Request::Push(token) => Call::Push(PushLine::P1(token, MaybeBlock::Nothing)),
-        Request::Steal => Call::Steal(StealLine::S1(Kind::Steal)),
-        Request::Batch(limit) => Call::Steal(StealLine::S1(Kind::Batch(limit))),
-        Request::Take(limit) => Call::Steal(StealLine::S1(Kind::Take(limit))),
-        Request::Len => Call::Length(LengthLine::L1),
-        Request::Empty => Call::Empty(EmptyLine::E1),
+        Request::Push(token) => return Call::Push(PushLine::P1(token, MaybeBlock::Nothing)),
+        Request::Steal => return Call::Steal(StealLine::S1(Kind::Steal)),
+        Request::Batch(limit) => return Call::Steal(StealLine::S1(Kind::Batch(limit))),
+        Request::Take(limit) => return Call::Steal(StealLine::S1(Kind::Take(limit))),
+        Request::Len => return Call::Length(LengthLine::L1),
+        Request::Empty => return Call::Empty(EmptyLine::E1),
     }
 }
 

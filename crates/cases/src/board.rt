@@ -3,9 +3,9 @@
 use crate::reads::Case;
 use crate::reads::NONE;
 use index::Index;
+use injector::TableStep;
 use state::Queue;
 use state::Thread;
-use injector::TableStep;
 ghost use mathlib.Core.Path.{_≡_};
 ghost use mathlib.Core.List.{_++_};
 ghost use Prim.Native.Nat.{_≤_};

@@ -4,10 +4,10 @@ use crate::board;
 use crate::board::Lent;
 use crate::reads::Case;
 use injector::Request;
+use injector::TableStep;
 use ring::Flavor;
 use state::Answer;
 use state::Thread;
-use injector::TableStep;
 
 fn none(words: Case) -> TableStep {
     TableStep {

@@ -73,9 +73,9 @@ pub fn length(q: Queue, line: LengthLine) -> Made
     ensures { λ r. ⌜ r ≡ spec.length q line .made ⌝ }
 {
     match line {
-        LengthLine::L1 => l1(q),
-        LengthLine::L2(tail) => l2(q, tail),
-        LengthLine::L3(tail, head) => l3(q, tail, head),
+        LengthLine::L1 => return l1(q),
+        LengthLine::L2(tail) => return l2(q, tail),
+        LengthLine::L3(tail, head) => return l3(q, tail, head),
     }
 }
 
@@ -83,7 +83,7 @@ pub fn empty(q: Queue, line: EmptyLine) -> Made
     ensures { λ r. ⌜ r ≡ spec.empty q line .made ⌝ }
 {
     match line {
-        EmptyLine::E1 => e1(q),
-        EmptyLine::E2(head) => e2(q, head),
+        EmptyLine::E1 => return e1(q),
+        EmptyLine::E2(head) => return e2(q, head),
     }
 }

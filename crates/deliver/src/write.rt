@@ -27,8 +27,8 @@ pub fn p9(q: Queue, pool: &mut [u64], token: u64, t: Index, b: u64, held: MaybeB
 {
     marks::fetch_or(pool, b, t.offset(), Mark::Write);
     match held {
-        MaybeBlock::Nothing => ends(q, Answer::Pushed),
-        MaybeBlock::Block(x) => to(q, PushLine::P10(x, false)),
+        MaybeBlock::Nothing => return ends(q, Answer::Pushed),
+        MaybeBlock::Block(x) => return to(q, PushLine::P10(x, false)),
     }
 }
 

@@ -31,9 +31,9 @@ fn go_on(fed: Fed, pool: &mut [u64], piece: &[u8], out: &mut [u8]) -> Fed
     let replay = fed.replay;
     let stage = replay.stage;
     match stage {
-        Stage::First => fed,
-        Stage::Open => feed_open(replay, fed.read, fed.written, pool, piece, out),
-        Stage::Over => gave(replay, piece.len(), fed.written),
+        Stage::First => return fed,
+        Stage::Open => return feed_open(replay, fed.read, fed.written, pool, piece, out),
+        Stage::Over => return gave(replay, piece.len(), fed.written),
     }
 }
 
@@ -117,7 +117,7 @@ pub fn feed(replay: Replay, pool: &mut [u64], piece: &[u8], out: &mut [u8]) -> F
     }
     let stage = replay.stage;
     match stage {
-        Stage::First => feed_first(replay, pool, piece, out),
-        _ => go_on(gave(replay, 0, 0), pool, piece, out),
+        Stage::First => return feed_first(replay, pool, piece, out),
+        _ => return go_on(gave(replay, 0, 0), pool, piece, out),
     }
 }

@@ -19,8 +19,8 @@ pub fn s5(q: Queue, pool: &[u64], kind: Kind, claim: Claim) -> Made
 {
     let next = memory::next(pool, claim.block);
     match next {
-        MaybeBlock::Nothing => to(q, StealLine::S5(kind, claim)),
-        MaybeBlock::Block(block) => to(q, StealLine::S6(kind, claim, block)),
+        MaybeBlock::Nothing => return to(q, StealLine::S5(kind, claim)),
+        MaybeBlock::Block(block) => return to(q, StealLine::S6(kind, claim, block)),
     }
 }
 
@@ -29,8 +29,8 @@ pub fn s6(q: Queue, pool: &[u64], kind: Kind, claim: Claim, next: u64) -> Made
 {
     let beyond = memory::next(pool, next);
     match beyond {
-        MaybeBlock::Nothing => to(q, StealLine::S7(kind, claim, next, false)),
-        MaybeBlock::Block(_) => to(q, StealLine::S7(kind, claim, next, true)),
+        MaybeBlock::Nothing => return to(q, StealLine::S7(kind, claim, next, false)),
+        MaybeBlock::Block(_) => return to(q, StealLine::S7(kind, claim, next, true)),
     }
 }
 

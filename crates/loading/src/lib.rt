@@ -28,16 +28,16 @@ pub fn p2(q: Queue, token: u64, t: Index, held: MaybeBlock) -> Made
         return to(q, PushLine::P1(token, held));
     }
     if q.ceiling <= t.lap() {
-        return match held {
-            MaybeBlock::Nothing => ends(q, Answer::Refused(Refusal::Spent)),
-            MaybeBlock::Block(x) => to(q, PushLine::P10(x, true)),
-        };
+        match held {
+            MaybeBlock::Nothing => return ends(q, Answer::Refused(Refusal::Spent)),
+            MaybeBlock::Block(x) => return to(q, PushLine::P10(x, true)),
+        }
     }
     if offset == BLOCK_CAP - 1 {
-        return match held {
-            MaybeBlock::Nothing => to(q, PushLine::P3(token, t, b)),
-            MaybeBlock::Block(_) => to(q, PushLine::P4(token, t, b, held)),
-        };
+        match held {
+            MaybeBlock::Nothing => return to(q, PushLine::P3(token, t, b)),
+            MaybeBlock::Block(_) => return to(q, PushLine::P4(token, t, b, held)),
+        }
     }
     to(q, PushLine::P4(token, t, b, held))
 }

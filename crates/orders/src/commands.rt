@@ -142,15 +142,17 @@ pub(crate) fn obey(q: Queue, pool: &mut [u64], thread: Thread, command: Command)
     ensures { λ _. ⌜ now (pool .exit) ≡ orderOf q (now (pool .entry)) thread command .pool ⌝ }
 {
     match command {
-        Command::Queue(_, _, _) => Done {
-            queue: q,
-            thread,
-            said: Said::Silent,
-            steps: 0,
-        },
-        Command::Pop(n) => pop_one(q, pool, thread, n),
-        Command::Step(n) => step_one(q, pool, thread, n),
-        Command::Run(n, budget) => run_one(q, pool, thread, n, budget),
-        _ => begin_one(q, pool, thread, thread_number(command), request_of(command)),
+        Command::Queue(_, _, _) => {
+            return Done {
+                queue: q,
+                thread,
+                said: Said::Silent,
+                steps: 0,
+            };
+        }
+        Command::Pop(n) => return pop_one(q, pool, thread, n),
+        Command::Step(n) => return step_one(q, pool, thread, n),
+        Command::Run(n, budget) => return run_one(q, pool, thread, n, budget),
+        _ => return begin_one(q, pool, thread, thread_number(command), request_of(command)),
     }
 }

@@ -19,15 +19,15 @@ pub fn step(q: Queue, pool: &mut [u64], line: PushLine) -> Made
     ensures { λ _. ⌜ now (pool .exit) ≡ after (now (pool .entry)) (spec.push q (now (pool .entry)) line .touch) ⌝ }
 {
     match line {
-        PushLine::P1(token, held) => loading::p1(q, token, held),
-        PushLine::P2(token, t, held) => loading::p2(q, token, t, held),
-        PushLine::P3(token, t, b) => ticket::p3(q, pool, token, t, b),
-        PushLine::P4(token, t, b, held) => ticket::p4(q, token, t, b, held),
-        PushLine::P5(token, t, b, held) => deliver::p5(q, token, t, b, held),
-        PushLine::P6(token, t, b, held) => deliver::p6(q, token, t, b, held),
-        PushLine::P7(token, t, b, held) => deliver::p7(q, pool, token, t, b, held),
-        PushLine::P8(token, t, b, held) => deliver::p8(q, pool, token, t, b, held),
-        PushLine::P9(token, t, b, held) => deliver::p9(q, pool, token, t, b, held),
-        PushLine::P10(held, spent) => deliver::p10(q, pool, held, spent),
+        PushLine::P1(token, held) => return loading::p1(q, token, held),
+        PushLine::P2(token, t, held) => return loading::p2(q, token, t, held),
+        PushLine::P3(token, t, b) => return ticket::p3(q, pool, token, t, b),
+        PushLine::P4(token, t, b, held) => return ticket::p4(q, token, t, b, held),
+        PushLine::P5(token, t, b, held) => return deliver::p5(q, token, t, b, held),
+        PushLine::P6(token, t, b, held) => return deliver::p6(q, token, t, b, held),
+        PushLine::P7(token, t, b, held) => return deliver::p7(q, pool, token, t, b, held),
+        PushLine::P8(token, t, b, held) => return deliver::p8(q, pool, token, t, b, held),
+        PushLine::P9(token, t, b, held) => return deliver::p9(q, pool, token, t, b, held),
+        PushLine::P10(held, spent) => return deliver::p10(q, pool, held, spent),
     }
 }

@@ -21,8 +21,8 @@ pub fn p3(q: Queue, pool: &mut [u64], token: u64, t: Index, b: u64) -> Made
 {
     let took = supply::take(pool, q.blocks);
     match took {
-        MaybeBlock::Nothing => ends(q, Answer::Refused(Refusal::NoBlock)),
-        MaybeBlock::Block(_) => to(q, PushLine::P4(token, t, b, took)),
+        MaybeBlock::Nothing => return ends(q, Answer::Refused(Refusal::NoBlock)),
+        MaybeBlock::Block(_) => return to(q, PushLine::P4(token, t, b, took)),
     }
 }
 
@@ -40,10 +40,10 @@ pub fn p4(q: Queue, token: u64, t: Index, b: u64, held: MaybeBlock) -> Made
     let new_tail = t.advance(1);
     won.tail = new_tail;
     if t.offset() == BLOCK_CAP - 1 {
-        return match held {
-            MaybeBlock::Nothing => to(won, PushLine::P8(token, t, b, held)),
-            MaybeBlock::Block(x) => to(won, PushLine::P5(token, t, b, x)),
-        };
+        match held {
+            MaybeBlock::Nothing => return to(won, PushLine::P8(token, t, b, held)),
+            MaybeBlock::Block(x) => return to(won, PushLine::P5(token, t, b, x)),
+        }
     }
     to(won, PushLine::P8(token, t, b, held))
 }

@@ -33,9 +33,9 @@ fn push_wait(q: Queue, line: PushLine) -> Wait
     match line {
         PushLine::P1(token, held) => {
             let t = q.tail;
-            turns_at(t, Call::Push(PushLine::P2(token, t, held)))
+            return turns_at(t, Call::Push(PushLine::P2(token, t, held)));
         }
-        _ => Wait::No,
+        _ => return Wait::No,
     }
 }
 
@@ -43,8 +43,8 @@ fn none_waits(next: MaybeBlock) -> Wait
     ensures { λ r. ⌜ r ≡ noneWaits next ⌝ }
 {
     match next {
-        MaybeBlock::Nothing => Wait::Stays,
-        MaybeBlock::Block(_) => Wait::No,
+        MaybeBlock::Nothing => return Wait::Stays,
+        MaybeBlock::Block(_) => return Wait::No,
     }
 }
 
@@ -63,11 +63,13 @@ fn steal_wait(q: Queue, pool: &[u64], line: StealLine) -> Wait
     match line {
         StealLine::S1(kind) => {
             let h = q.head;
-            turns_at(h, Call::Steal(StealLine::S2(kind, h)))
+            return turns_at(h, Call::Steal(StealLine::S2(kind, h)));
         }
-        StealLine::S5(_, claim) => none_waits(memory::next(pool, claim.block)),
-        StealLine::S9(_, claim, slot) => unwritten_waits(memory::state(pool, claim.block, slot)),
-        _ => Wait::No,
+        StealLine::S5(_, claim) => return none_waits(memory::next(pool, claim.block)),
+        StealLine::S9(_, claim, slot) => {
+            return unwritten_waits(memory::state(pool, claim.block, slot));
+        }
+        _ => return Wait::No,
     }
 }
 
@@ -75,11 +77,11 @@ pub fn wait_of(q: Queue, pool: &[u64], call: Call) -> Wait
     ensures { λ r. ⌜ r ≡ waitOf q (now (pool .entry)) call ⌝ }
 {
     match call {
-        Call::Idle => Wait::No,
-        Call::Push(line) => push_wait(q, line),
-        Call::Steal(line) => steal_wait(q, pool, line),
-        Call::Length(_) => Wait::No,
-        Call::Empty(_) => Wait::No,
+        Call::Idle => return Wait::No,
+        Call::Push(line) => return push_wait(q, line),
+        Call::Steal(line) => return steal_wait(q, pool, line),
+        Call::Length(_) => return Wait::No,
+        Call::Empty(_) => return Wait::No,
     }
 }
 
@@ -88,13 +90,13 @@ pub fn waited_call(call: Call, wait: Wait, left: u64) -> Call
     ensures { λ r. ⌜ r ≡ waitedCall call wait left ⌝ }
 {
     match wait {
-        Wait::No => call,
-        Wait::Stays => call,
+        Wait::No => return call,
+        Wait::Stays => return call,
         Wait::Turns(other) => {
             if left % 2 == 1 {
                 return other;
             }
-            call
+            return call;
         }
     }
 }

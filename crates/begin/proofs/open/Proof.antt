@@ -41,16 +41,4 @@ returns-6 c = simp (c .enum-told3 .given .1)
 pub open-spec : {M : Type 1} → statement M
 open-spec =
     tie.close
-    (tie.spec
-    enum-known-what
-    enum-told
-    enum-known-what-2
-    enum-known-what-3
-    enum-told-2
-    enum-told-3
-    returns
-    returns-2
-    returns-3
-    returns-4
-    returns-5
-    returns-6)
+    (tie.spec enum-known-what returns enum-told returns-2 enum-known-what-2 returns-3 enum-known-what-3 returns-4 enum-told-2 returns-5 enum-told-3 returns-6)

@@ -24,4 +24,4 @@ returns-2 c =
 
 pub empty-spec : {M : Type 1} → statement M
 empty-spec =
-    tie.close (tie.spec enum-told e1-requires enum-known-line e2-requires returns returns-2)
+    tie.close (tie.spec enum-told e1-requires returns enum-known-line e2-requires returns-2)

@@ -35,13 +35,4 @@ returns-3 c =
 pub length-spec : {M : Type 1} → statement M
 length-spec =
     tie.close
-    (tie.spec
-    enum-told
-    l1-requires
-    enum-known-line
-    l2-requires
-    enum-known-line-2
-    l3-requires
-    returns
-    returns-2
-    returns-3)
+    (tie.spec enum-told l1-requires returns enum-known-line l2-requires returns-2 enum-known-line-2 l3-requires returns-3)

@@ -71,16 +71,4 @@ returns-3 c =
 pub feed-spec : {M : Type 1} → statement M
 feed-spec =
     tie.close
-    (tie.spec
-    gave-requires
-    returns
-    enum-told
-    feed-first-requires
-    gave-requires-2
-    go-on-requires
-    same-length
-    same-length-2
-    returns-2
-    same-length-3
-    same-length-4
-    returns-3)
+    (tie.spec gave-requires returns enum-told feed-first-requires same-length same-length-2 returns-2 gave-requires-2 go-on-requires same-length-3 same-length-4 returns-3)

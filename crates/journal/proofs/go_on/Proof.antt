@@ -38,14 +38,4 @@ returns-3 c =
 pub go-on-spec : {M : Type 1} → statement M
 go-on-spec =
     tie.close
-    (tie.spec
-    enum-told
-    enum-told-2
-    feed-open-requires
-    enum-told-3
-    gave-requires
-    returns
-    same-length
-    same-length-2
-    returns-2
-    returns-3)
+    (tie.spec enum-told returns enum-told-2 feed-open-requires same-length same-length-2 returns-2 enum-told-3 gave-requires returns-3)

@@ -38,4 +38,4 @@ returns-2 c =
 pub s5-spec : {M : Type 1} → statement M
 s5-spec =
     tie.close
-    (tie.spec next-requires enum-told to-requires enum-known-next to-requires-2 returns returns-2)
+    (tie.spec next-requires enum-told to-requires returns enum-known-next to-requires-2 returns-2)

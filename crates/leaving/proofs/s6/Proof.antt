@@ -35,4 +35,4 @@ returns-2 c =
 pub s6-spec : {M : Type 1} → statement M
 s6-spec =
     tie.close
-    (tie.spec next-requires enum-told to-requires enum-told-2 to-requires-2 returns returns-2)
+    (tie.spec next-requires enum-told to-requires returns enum-told-2 to-requires-2 returns-2)

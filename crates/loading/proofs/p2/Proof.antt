@@ -113,23 +113,4 @@ returns-6 c =
 pub p2-spec : {M : Type 1} → statement M
 p2-spec =
     tie.close
-    (tie.spec
-    offset-requires
-    to-requires
-    returns
-    lap-requires
-    enum-told
-    ends-requires
-    enum-known-held
-    to-requires-2
-    returns-2
-    returns-3
-    sub-if3
-    enum-told-2
-    to-requires-3
-    enum-told-3
-    to-requires-4
-    returns-4
-    returns-5
-    to-requires-5
-    returns-6)
+    (tie.spec offset-requires to-requires returns lap-requires enum-told ends-requires returns-2 enum-known-held to-requires-2 returns-3 sub-if3 enum-told-2 to-requires-3 returns-4 enum-told-3 to-requires-4 returns-5 to-requires-5 returns-6)

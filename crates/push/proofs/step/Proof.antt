@@ -124,39 +124,4 @@ returns-10 c =
 pub step-spec : {M : Type 1} → statement M
 step-spec =
     tie.close
-    (tie.spec
-    enum-known-line
-    p1-requires
-    enum-known-line-2
-    p2-requires
-    enum-known-line-3
-    p3-requires
-    enum-known-line-4
-    p4-requires
-    enum-known-line-5
-    p5-requires
-    enum-known-line-6
-    p6-requires
-    enum-known-line-7
-    p7-requires
-    enum-known-line-8
-    p8-requires
-    enum-known-line-9
-    p9-requires
-    enum-known-line-10
-    p10-requires
-    returns
-    returns-2
-    same-length
-    returns-3
-    returns-4
-    returns-5
-    returns-6
-    same-length-2
-    returns-7
-    same-length-3
-    returns-8
-    same-length-4
-    returns-9
-    same-length-5
-    returns-10)
+    (tie.spec enum-known-line p1-requires returns enum-known-line-2 p2-requires returns-2 enum-known-line-3 p3-requires same-length returns-3 enum-known-line-4 p4-requires returns-4 enum-known-line-5 p5-requires returns-5 enum-known-line-6 p6-requires returns-6 enum-known-line-7 p7-requires same-length-2 returns-7 enum-known-line-8 p8-requires same-length-3 returns-8 enum-known-line-9 p9-requires same-length-4 returns-9 enum-known-line-10 p10-requires same-length-5 returns-10)

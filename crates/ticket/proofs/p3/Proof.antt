@@ -43,13 +43,4 @@ returns-2 c =
 pub p3-spec : {M : Type 1} → statement M
 p3-spec =
     tie.close
-    (tie.spec
-    take-requires
-    enum-told
-    ends-requires
-    enum-told-2
-    to-requires
-    same-length
-    returns
-    same-length-2
-    returns-2)
+    (tie.spec take-requires enum-told ends-requires same-length returns enum-told-2 to-requires same-length-2 returns-2)

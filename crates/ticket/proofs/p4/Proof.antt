@@ -74,17 +74,4 @@ returns-4 c =
 pub p4-spec : {M : Type 1} → statement M
 p4-spec =
     tie.close
-    (tie.spec
-    to-requires
-    returns
-    advance-requires
-    offset-requires
-    sub-if2
-    enum-told
-    to-requires-2
-    enum-known-held
-    to-requires-3
-    returns-2
-    returns-3
-    to-requires-4
-    returns-4)
+    (tie.spec to-requires returns advance-requires offset-requires sub-if2 enum-told to-requires-2 returns-2 enum-known-held to-requires-3 returns-3 to-requires-4 returns-4)

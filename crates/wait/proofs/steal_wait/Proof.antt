@@ -72,16 +72,4 @@ returns-4 c = let a = c .before .before .args in goes (a .q) (a .pool .now) (a .
 pub steal-wait-spec : {M : Type 1} → statement M
 steal-wait-spec =
     tie.close
-    (tie.spec
-    enum-known-line
-    turns-at-requires
-    enum-known-line-2
-    next-requires
-    none-waits-requires
-    enum-known-line-3
-    state-requires
-    unwritten-waits-requires
-    returns
-    returns-2
-    returns-3
-    returns-4)
+    (tie.spec enum-known-line turns-at-requires returns enum-known-line-2 next-requires none-waits-requires returns-2 enum-known-line-3 state-requires unwritten-waits-requires returns-3 returns-4)

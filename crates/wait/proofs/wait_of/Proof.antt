@@ -47,16 +47,4 @@ returns-5 c = simp (c .enum-told3 .given .1)
 pub wait-of-spec : {M : Type 1} → statement M
 wait-of-spec =
     tie.close
-    (tie.spec
-    enum-told
-    enum-known-call
-    push-wait-requires
-    enum-known-call-2
-    steal-wait-requires
-    enum-told-2
-    enum-told-3
-    returns
-    returns-2
-    returns-3
-    returns-4
-    returns-5)
+    (tie.spec enum-told returns enum-known-call push-wait-requires returns-2 enum-known-call-2 steal-wait-requires returns-3 enum-told-2 returns-4 enum-told-3 returns-5)

@@ -46,14 +46,4 @@ returns-2 c =
 pub p9-spec : {M : Type 1} → statement M
 p9-spec =
     tie.close
-    (tie.spec
-    offset-requires
-    fetch-or-requires
-    enum-told
-    ends-requires
-    enum-known-held
-    to-requires
-    same-length
-    returns
-    same-length-2
-    returns-2)
+    (tie.spec offset-requires fetch-or-requires enum-told ends-requires same-length returns enum-known-held to-requires same-length-2 returns-2)

@@ -91,23 +91,4 @@ returns-5 c =
 pub obey-spec : {M : Type 1} → statement M
 obey-spec =
     tie.close
-    (tie.spec
-    enum-told
-    enum-known-command
-    pop-one-requires
-    enum-known-command-2
-    step-one-requires
-    enum-known-command-3
-    run-one-requires
-    thread-number-requires
-    request-of-requires
-    begin-one-requires
-    returns
-    same-length
-    returns-2
-    same-length-2
-    returns-3
-    same-length-3
-    returns-4
-    same-length-4
-    returns-5)
+    (tie.spec enum-told returns enum-known-command pop-one-requires same-length returns-2 enum-known-command-2 step-one-requires same-length-2 returns-3 enum-known-command-3 run-one-requires same-length-3 returns-4 thread-number-requires request-of-requires begin-one-requires same-length-4 returns-5)
