@@ -21,9 +21,6 @@ numbered-line _ _ _ _ _ _ p q = (refl, refl)
 pub refused : One say.refused.ended say.refused.Reads.Learnt
 refused _ _ _ _ _ _ p q = (refl, refl)
 
-pub refused-line : One say.refused_line.ended say.refused_line.Reads.Learnt
-refused-line _ _ _ _ _ _ p q = (refl, refl)
-
 pub answer : One say.answer.ended say.answer.Reads.Learnt
 answer _ _ _ _ _ _ p q = (refl, refl)
 

@@ -1,4 +1,4 @@
-// What the test program prints with: labels, numbers and answers, to standard output.
+// What the test programs print with: labels, numbers and answers, to standard output.
 use libc::STDOUT_FILENO;
 use state::Answer;
 use state::Refusal;
@@ -29,12 +29,6 @@ pub fn numbered_line(word: &[u8], n: u64) {
 
 pub fn refused(refusal: Refusal) {
     numbered(b" -> refused ", refusal_number(refusal));
-}
-
-pub fn refused_line(word: &[u8], refusal: Refusal) {
-    text(word);
-    refused(refusal);
-    text(b"\n");
 }
 
 pub fn answer(answer: Answer) {
