@@ -1,4 +1,5 @@
 // The replay of a log as a library: text goes in, in pieces of any size, and what happened comes out.
+pub use ending::finish;
 use later::feed_open;
 use lines::hold;
 pub use log::Fed;
@@ -6,7 +7,6 @@ pub use log::Replay;
 pub use log::Stage;
 use opening::open_line;
 use whole::assembled;
-pub use whole::finish;
 use whole::gave;
 pub use whole::new;
 ghost use mathlib.Core.Path.{_≡_};

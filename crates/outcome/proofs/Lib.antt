@@ -28,6 +28,7 @@ pub mod Start
 pub mod Entry
 pub mod Ran
 pub mod Audit
+pub mod Calling
 pub mod Begin
 pub mod Pop
 pub mod Advance
@@ -38,6 +39,7 @@ pub mod Lines
 pub mod Places
 pub mod Orders
 pub mod Whole
+pub mod Ending
 pub mod Opening
 pub mod Journal
 pub mod Later

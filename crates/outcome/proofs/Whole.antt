@@ -1,7 +1,7 @@
 -- Each public function of `whole` has one outcome at most.
 use mathlib.Core.Path.{refl}
 use Rattle.outcome.specs.One.{One}
-use Rattle.outcome.proofs.Equations.{both, first, later}
+use Rattle.outcome.proofs.Equations.{both}
 use Rattle.whole.proofs as whole
 
 pub assembled : One whole.assembled.ended whole.assembled.Reads.Learnt
@@ -9,9 +9,6 @@ assembled _ _ _ _ _ _ p q = (both p q, refl)
 
 pub gave : One whole.gave.ended whole.gave.Reads.Learnt
 gave _ _ _ _ _ _ p q = (both p q, refl)
-
-pub finish : One whole.finish.ended whole.finish.Reads.Learnt
-finish _ _ _ _ _ _ p q = (both (p .1 .0) (q .1 .0), later (first (both (p .0) (q .0))))
 
 pub new : One whole.new.ended whole.new.Reads.Learnt
 new _ _ _ _ _ _ p q = (both p q, refl)

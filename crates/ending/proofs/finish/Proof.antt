@@ -3,8 +3,8 @@ use native.Mathlib.Omega.{arith}
 use mathlib.Core.Path.{_≡_, refl, sym, ap, _∙_}
 use borrow.Author.Needs.{needs}
 use Rattle.text.proofs.Writing.{at-front}
-use Rattle.whole.proofs.finish.Statement.{statement}
-use Rattle.whole.proofs.finish.Tie as tie
+use Rattle.ending.proofs.finish.Statement.{statement}
+use Rattle.ending.proofs.finish.Tie as tie
 
 returns : tie.Need-returns
 returns c = (rw (lt-leb 256 _ (c .if1 .taken)) refl, (rw (lt-leb 256 _ (c .if1 .taken)) refl, search needs))

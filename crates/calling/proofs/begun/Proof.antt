@@ -1,6 +1,6 @@
 use borrow.Author.Needs.{needs}
-use Rattle.begin.proofs.begun.Statement.{statement}
-use Rattle.begin.proofs.begun.Tie as tie
+use Rattle.calling.proofs.begun.Statement.{statement}
+use Rattle.calling.proofs.begun.Tie as tie
 
 open-requires : tie.Need-open-requires
 open-requires c κs = search needs

@@ -1,6 +1,6 @@
 use borrow.Author.Needs.{needs}
-use Rattle.begin.proofs.open.Statement.{statement}
-use Rattle.begin.proofs.open.Tie as tie
+use Rattle.calling.proofs.open.Statement.{statement}
+use Rattle.calling.proofs.open.Tie as tie
 
 enum-known-what : tie.Need-enum-known-what
 enum-known-what c = search needs
