@@ -45,36 +45,36 @@ fn push_line(case: Case) -> PushLine {
     let tail = Index { raw: case.b };
     let held = maybe(case.d);
     match line {
-        1 => PushLine::P1(case.a, held),
-        2 => PushLine::P2(case.a, tail, held),
-        3 => PushLine::P3(case.a, tail, case.c),
-        4 => PushLine::P4(case.a, tail, case.c, held),
-        5 => PushLine::P5(case.a, tail, case.c, case.d),
-        6 => PushLine::P6(case.a, tail, case.c, case.d),
-        7 => PushLine::P7(case.a, tail, case.c, case.d),
-        8 => PushLine::P8(case.a, tail, case.c, held),
-        9 => PushLine::P9(case.a, tail, case.c, held),
-        _ => PushLine::P10(case.c, case.d == 1),
+        1 => return PushLine::P1(case.a, held),
+        2 => return PushLine::P2(case.a, tail, held),
+        3 => return PushLine::P3(case.a, tail, case.c),
+        4 => return PushLine::P4(case.a, tail, case.c, held),
+        5 => return PushLine::P5(case.a, tail, case.c, case.d),
+        6 => return PushLine::P6(case.a, tail, case.c, case.d),
+        7 => return PushLine::P7(case.a, tail, case.c, case.d),
+        8 => return PushLine::P8(case.a, tail, case.c, held),
+        9 => return PushLine::P9(case.a, tail, case.c, held),
+        _ => return PushLine::P10(case.c, case.d == 1),
     }
 }
 
 fn claimed(line: u64, kind: Kind, won: Won, claim: Claim, place: u64, flag: bool) -> StealLine {
     let head = claim.head;
     match line {
-        1 => StealLine::S1(kind),
-        2 => StealLine::S2(kind, head),
-        3 => StealLine::S3(kind, head, claim.block),
-        4 => StealLine::S4(kind, claim, flag),
-        5 => StealLine::S5(kind, claim),
-        6 => StealLine::S6(kind, claim, place),
-        7 => StealLine::S7(kind, claim, place, flag),
-        8 => StealLine::S8(kind, claim, flag),
-        9 => StealLine::S9(kind, claim, place),
-        10 => StealLine::S10(kind, claim, place),
-        11 => StealLine::S11(won, claim, place),
-        12 => StealLine::S12(won, claim.block, place),
-        13 => StealLine::S13(won, claim.block, place),
-        _ => StealLine::S14(won, claim.block),
+        1 => return StealLine::S1(kind),
+        2 => return StealLine::S2(kind, head),
+        3 => return StealLine::S3(kind, head, claim.block),
+        4 => return StealLine::S4(kind, claim, flag),
+        5 => return StealLine::S5(kind, claim),
+        6 => return StealLine::S6(kind, claim, place),
+        7 => return StealLine::S7(kind, claim, place, flag),
+        8 => return StealLine::S8(kind, claim, flag),
+        9 => return StealLine::S9(kind, claim, place),
+        10 => return StealLine::S10(kind, claim, place),
+        11 => return StealLine::S11(won, claim, place),
+        12 => return StealLine::S12(won, claim.block, place),
+        13 => return StealLine::S13(won, claim.block, place),
+        _ => return StealLine::S14(won, claim.block),
     }
 }
 
@@ -118,11 +118,11 @@ fn empty_line(case: Case) -> EmptyLine {
 fn call(case: Case) -> Call {
     let letter = case.letter;
     match letter {
-        b'P' => Call::Push(push_line(case)),
-        b'S' => Call::Steal(steal_line(case)),
-        b'L' => Call::Length(length_line(case)),
-        b'E' => Call::Empty(empty_line(case)),
-        _ => Call::Idle,
+        b'P' => return Call::Push(push_line(case)),
+        b'S' => return Call::Steal(steal_line(case)),
+        b'L' => return Call::Length(length_line(case)),
+        b'E' => return Call::Empty(empty_line(case)),
+        _ => return Call::Idle,
     }
 }
 
