@@ -12,7 +12,7 @@ to-block-end-requires : tie.Need-to-block-end-requires
 to-block-end-requires c κs = search needs
 
 returns : tie.Need-returns
-returns c = c .to-block-end .ensures ∙ sym (told-next _ _ _ (cc))
+returns c = c .to-block-end .ensures ∙ sym (told-next _ _ _ (sym (c .before .before .has-next .ensures) ∙ c .before .if1 .taken))
 
 lap-requires : tie.Need-lap-requires
 lap-requires c κs = search needs
@@ -24,7 +24,7 @@ to-block-end-requires-2 : tie.Need-to-block-end-requires-2
 to-block-end-requires-2 c κs = search needs
 
 returns-2 : tie.Need-returns-2
-returns-2 c = c .to-block-end2 .ensures ∙ sym (other-lap _ _ _ (cc) (λ e. omega arith))
+returns-2 c = c .to-block-end2 .ensures ∙ sym (other-lap _ _ _ (sym (c .before .before .before .before .before .has-next .ensures) ∙ c .before .before .before .before .if1 .left) (λ e. c .before .if2 .taken (c .before .before .before .lap .ensures ∙ e ∙ sym (c .before .before .lap2 .ensures))))
 
 position-requires : tie.Need-position-requires
 position-requires c κs = search needs
@@ -35,7 +35,7 @@ position-requires-2 c κs = search needs
 returns-3 : tie.Need-returns-3
 returns-3 c =
     let a = c .before .before .before .before .before .before .before .before .args in
-    omega (arith, same-lap (a .head .raw) (a .tail .raw) (a .limit) (cc) (omega arith))
+    omega (arith, same-lap (a .head .raw) (a .tail .raw) (a .limit) (sym (c .before .before .before .before .before .before .before .has-next .ensures) ∙ c .before .before .before .before .before .before .if1 .left) (sym (c .before .before .before .before .before .lap .ensures) ∙ c .before .before .before .if2 .left ∙ c .before .before .before .before .lap2 .ensures))
 
 add-half : tie.Need-add-half
 add-half c = search needs
@@ -43,12 +43,12 @@ add-half c = search needs
 returns-4 : tie.Need-returns-4
 returns-4 c =
     let a = c .before .before .before .before .before .before .before .before .before .args in
-    omega (arith, same-lap (a .head .raw) (a .tail .raw) (a .limit) (cc) (omega arith))
+    omega (arith, same-lap (a .head .raw) (a .tail .raw) (a .limit) (sym (c .before .before .before .before .before .before .before .before .has-next .ensures) ∙ c .before .before .before .before .before .before .before .if1 .left) (sym (c .before .before .before .before .before .before .lap .ensures) ∙ c .before .before .before .before .if2 .left ∙ c .before .before .before .before .before .lap2 .ensures))
 
 returns-5 : tie.Need-returns-5
 returns-5 c =
     let a = c .before .before .before .before .before .before .before .before .before .args in
-    omega (arith, same-lap (a .head .raw) (a .tail .raw) (a .limit) (cc) (omega arith))
+    omega (arith, same-lap (a .head .raw) (a .tail .raw) (a .limit) (sym (c .before .before .before .before .before .before .before .before .has-next .ensures) ∙ c .before .before .before .before .before .before .before .if1 .left) (sym (c .before .before .before .before .before .before .lap .ensures) ∙ c .before .before .before .before .if2 .left ∙ c .before .before .before .before .before .lap2 .ensures))
 
 pub batch-advance-spec : {M : Type 1} → statement M
 batch-advance-spec =

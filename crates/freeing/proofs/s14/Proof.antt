@@ -15,7 +15,7 @@ same-length : tie.Need-same-length
 same-length c = search needs
 
 returns : tie.Need-returns
-returns c = (cc, cc)
+returns c = (rw (← c .before .answer-of .ensures) (c .ends .ensures), c .before .before .before .before .give-back .ensures)
 
 pub s14-spec : {M : Type 1} → statement M
 s14-spec =

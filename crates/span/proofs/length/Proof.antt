@@ -1,7 +1,7 @@
 use borrow.Author.Needs.{needs}
 use native.Mathlib.Omega.{arith}
 use Prim.Native.Nat.{ℕ}
-use mathlib.Core.Path.{_≡_}
+use mathlib.Core.Path.{_≡_, ap, _∙_}
 use Rattle.index.specs.Length.{movedOn, lenFrom, len}
 use Rattle.span.proofs.length.Statement.{statement}
 use Rattle.span.proofs.length.Tie as tie
@@ -27,7 +27,7 @@ mul-first : tie.Need-mul-first
 mul-first c = search needs
 
 returns : tie.Need-returns
-returns c = len-of _ _ _ (c .before .before .before .moved-on .result) (c .before .moved-on2 .result) (cc) (cc) (omega arith)
+returns c = len-of _ _ _ (c .before .before .before .moved-on .result) (c .before .moved-on2 .result) (c .before .before .before .moved-on .ensures ∙ ap movedOn (c .before .before .before .before .position .ensures)) (c .before .moved-on2 .ensures ∙ ap movedOn (c .before .before .position2 .ensures)) (omega arith)
 
 sub-near : tie.Need-sub-near
 sub-near c = search needs
@@ -36,7 +36,7 @@ add-if2 : tie.Need-add-if2
 add-if2 c = search needs
 
 returns-2 : tie.Need-returns-2
-returns-2 c = len-of _ _ _ (c .before .before .before .before .moved-on .result) (c .before .before .moved-on2 .result) (cc) (cc) (omega arith)
+returns-2 c = len-of _ _ _ (c .before .before .before .before .moved-on .result) (c .before .before .moved-on2 .result) (c .before .before .before .before .moved-on .ensures ∙ ap movedOn (c .before .before .before .before .before .position .ensures)) (c .before .before .moved-on2 .ensures ∙ ap movedOn (c .before .before .before .position2 .ensures)) (omega arith)
 
 sub-result : tie.Need-sub-result
 sub-result c = search needs
@@ -45,7 +45,7 @@ sub-result-2 : tie.Need-sub-result-2
 sub-result-2 c = search needs
 
 returns-3 : tie.Need-returns-3
-returns-3 c = len-of _ _ _ (c .before .before .before .before .moved-on .result) (c .before .before .moved-on2 .result) (cc) (cc) (omega arith)
+returns-3 c = len-of _ _ _ (c .before .before .before .before .moved-on .result) (c .before .before .moved-on2 .result) (c .before .before .before .before .moved-on .ensures ∙ ap movedOn (c .before .before .before .before .before .position .ensures)) (c .before .before .moved-on2 .ensures ∙ ap movedOn (c .before .before .before .position2 .ensures)) (omega arith)
 
 pub length-spec : {M : Type 1} → statement M
 length-spec =
