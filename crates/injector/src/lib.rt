@@ -3,6 +3,7 @@
 // and a refused entry changes nothing.
 pub use audit::audit;
 pub use begin::begin;
+pub use idle::idle_thread;
 pub use machine::Audited;
 pub use machine::Began;
 pub use machine::Begun;
@@ -14,7 +15,6 @@ pub use machine::RingPopped;
 pub use machine::Started;
 pub use pop::pop;
 pub use run::run;
-pub use start::idle_thread;
 pub use start::setup;
 pub use step::step;
 pub use table::TableStep;

@@ -24,6 +24,7 @@ pub mod Freeing
 pub mod Push
 pub mod Steal
 pub mod Count
+pub mod Idle
 pub mod Start
 pub mod Entry
 pub mod Ran

@@ -1,16 +1,12 @@
-// A new queue over lent words, and a new thread.
+// A new queue over lent words.
 use index::Index;
 use machine::Ready;
 use machine::Started;
-use ring::Flavor;
-use ring::Ring;
-use state::Call;
 use state::Queue;
 use state::Refusal;
-use state::Thread;
 ghost use mathlib.Core.Path.{_≡_};
 ghost use lib.ListN.{length};
-ghost use Rattle.machine.specs.Entry.{atStart, setUp, setUpPool, idleThread};
+ghost use Rattle.machine.specs.Entry.{atStart, setUp, setUpPool};
 
 fn at_start(threads: u64, blocks: u64, ceiling: u64) -> Queue
     ensures { λ r. ⌜ r ≡ atStart threads blocks ceiling ⌝ }
@@ -43,17 +39,5 @@ pub fn setup(threads: u64, blocks: u64, ceiling: u64, pool: &mut [u64]) -> Start
     Started {
         queue,
         answer: Ready::Refused(Refusal::BadSetup),
-    }
-}
-
-// Idle, with an empty ring of the flavour asked for.
-pub fn idle_thread(flavor: Flavor) -> Thread
-    ensures { λ r. ⌜ r ≡ idleThread flavor ⌝ }
-{
-    let ring = Ring::new(flavor);
-    Thread {
-        ring,
-        call: Call::Idle,
-        taken: [0u64; 63],
     }
 }

@@ -1,4 +1,5 @@
 // The replay as a whole: at its start, and put together from the fields.
+use idle::idle_thread;
 use index::Index;
 use log::Fed;
 use log::Replay;
@@ -64,7 +65,7 @@ pub fn over(replay: Replay) -> Replay
 pub fn opened(replay: Replay, queue: Queue) -> Replay
     ensures { λ r. ⌜ r ≡ opens replay queue ⌝ }
 {
-    let idle = start::idle_thread(Flavor::Fifo);
+    let idle = idle_thread(Flavor::Fifo);
     let line = replay.line;
     assembled(queue, [idle; 8], line, 0, 2, 0, Stage::Open)
 }
@@ -73,7 +74,7 @@ pub fn opened(replay: Replay, queue: Queue) -> Replay
 pub fn new() -> Replay
     ensures { λ r. ⌜ r ≡ atFirst ⌝ }
 {
-    let idle = start::idle_thread(Flavor::Fifo);
+    let idle = idle_thread(Flavor::Fifo);
     let queue = Queue {
         head: Index { raw: 0 },
         head_block: 0,

@@ -1,6 +1,6 @@
 use borrow.Author.Needs.{needs}
-use Rattle.start.proofs.idle_thread.Statement.{statement}
-use Rattle.start.proofs.idle_thread.Tie as tie
+use Rattle.idle.proofs.idle_thread.Statement.{statement}
+use Rattle.idle.proofs.idle_thread.Tie as tie
 
 new-requires : tie.Need-new-requires
 new-requires c κs = search needs
