@@ -1,4 +1,5 @@
 // One line of the step table: the one at which the thread's call stands.
+#![tactic(auto)]
 ghost use Rattle.std.specs.Prelude.{◌≡◌, true, ◌*◌, ◌≤◌};
 ghost use Rattle.index.specs.Position.{position};
 ghost use Rattle.memory.specs.Touch.{after};

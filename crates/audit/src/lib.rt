@@ -1,4 +1,5 @@
 // How long the chain of blocks is: the links are followed from the head's block to the tail's.
+#![tactic(auto)]
 ghost use Rattle.std.specs.Prelude.{◌≡◌, ◌+◌, ◌<◌, ◌^◌};
 ghost use Rattle.machine.specs.Audit.{chase, audit_entry};
 

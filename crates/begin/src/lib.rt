@@ -1,4 +1,5 @@
 // The begins of each call.
+#![tactic(auto)]
 ghost use Rattle.std.specs.Prelude.{◌≡◌};
 ghost use Rattle.machine.specs.Entry.{tested_as, begin_entry};
 ghost use Rattle.begin.specs.Asked.{tested_begin};

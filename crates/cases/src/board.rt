@@ -10,7 +10,7 @@ use injector::TableStep;
 use state::{Queue, Thread};
 
 // What the step entry gave back last, and the table.
-#[derive(Drop)]
+#[derive(Clone, Copy)]
 pub(crate) struct Lent {
     pub(crate) step: TableStep,
     pub(crate) table: [Thread; 8],

@@ -13,6 +13,7 @@
 //   push T X, steal T, count T, empty T   record T begins a call
 //   fill T N        the ring of record T holds N tokens
 //   row T           the step entry over the lent records steps record T
+#![tactic(auto)]
 mod acts;
 mod board;
 mod reads;

@@ -5,7 +5,7 @@ ghost use Rattle.std.specs.Prelude.{◌<◌, ◌≤◌, length};
 pub(crate) const NONE: u64 = 18446744073709551615;
 
 // The first letter, the number right behind it, and the ten behind the word: what each is, its reader knows.
-#[derive(Drop)]
+#[derive(Clone, Copy)]
 pub(crate) struct Case {
     pub(crate) letter: u8,
     pub(crate) line: u64,

@@ -1,4 +1,5 @@
 // S1 to S4 of a steal: load the head, look whether there is something to take, claim it.
+#![tactic(auto)]
 ghost use Rattle.std.specs.Prelude.{◌≡◌, true, ◌*◌, ◌≤◌};
 ghost use Rattle.index.specs.Position.{position};
 ghost use Rattle.state.specs.List.{claim_good};

@@ -1,5 +1,6 @@
 // The loads of a length, L1 to L3, and of an empty, E1 and E2: one function a line, one shared access each.
 // None touches the lent memory (machine, specs/CountLaws.antt).
+#![tactic(auto)]
 ghost use Rattle.std.specs.Prelude.{◌≡◌};
 ghost use Rattle.machine.specs.Count as spec;
 

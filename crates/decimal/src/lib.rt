@@ -1,4 +1,5 @@
 // Numbers of the text: decimals without needless zeros, at most the largest u64.
+#![tactic(auto)]
 ghost use Rattle.std.specs.Prelude.{◌≡◌};
 ghost use Rattle.text.specs.Line.{number_at, row_at};
 

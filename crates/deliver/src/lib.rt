@@ -1,4 +1,5 @@
 // P5 to P10 of a push, from its ticket to its end: the next block where the ticket is the block's last, the token.
+#![tactic(auto)]
 mod install;
 mod write;
 

@@ -1,5 +1,6 @@
 // BAD_SETUP, BAD_STATE, NO_THREAD: tested first by every entry that is handed a thread. Then IDLE, by an entry that goes
 // on with a call, or BUSY, by one that wants none open.
+#![tactic(auto)]
 ghost use Rattle.std.specs.Prelude.{◌≡◌};
 ghost use Rattle.machine.specs.Entry.{tested};
 ghost use Rattle.machine.specs.Step.{is_idle};

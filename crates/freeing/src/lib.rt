@@ -1,4 +1,5 @@
 // S11 to S14 of a steal: mark the claimed slots read, and destroy the block: the walk down, and its return to the pool.
+#![tactic(auto)]
 ghost use Rattle.std.specs.Prelude.{◌≡◌, true};
 ghost use Rattle.memory.specs.Touch.{after};
 ghost use Rattle.state.specs.List.{claim_good, in_claim};

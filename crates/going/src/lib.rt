@@ -1,4 +1,5 @@
 // Whether a run goes on after its own step.
+#![tactic(auto)]
 ghost use Rattle.std.specs.Prelude.{◌≡◌, ◌&&◌};
 ghost use Rattle.state.specs.List.{shared_good, record_good};
 ghost use Rattle.machine.specs.Step.{is_open};

@@ -1,4 +1,5 @@
 // A new thread.
+#![tactic(auto)]
 ghost use Rattle.std.specs.Prelude.{◌≡◌};
 ghost use Rattle.machine.specs.Entry.{idle_thread};
 

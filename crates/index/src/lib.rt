@@ -1,5 +1,6 @@
 // The packed index of the Rust's `Position`: a place in the queue and the HAS_NEXT bit in one number.
 // Nothing here is about 64 bits but the two `requires`, which say that a sum fits.
+#![tactic(auto)]
 ghost use Rattle.std.specs.Prelude.{◌≡◌, Bool, true, false, ℕ, ◌+◌, ◌*◌, ◌<◌, ◌≤◌, ◌^◌};
 ghost use Rattle.index.specs.Position.{position, lap, offset, has_next};
 ghost use Rattle.index.specs.Claim.{advanced, with_next, left_lap};
@@ -12,7 +13,7 @@ pub const BLOCK_CAP: u64 = 63;
 
 pub const HAS_NEXT: u64 = 1;
 
-#[derive(Drop)]
+#[derive(Clone, Copy)]
 pub struct Index {
     pub raw: u64,
 }

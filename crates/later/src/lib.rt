@@ -1,4 +1,5 @@
 // The lines after line 1: each a command of one thread.
+#![tactic(auto)]
 ghost use Rattle.std.specs.Prelude.{◌≡◌, ◌≤◌, length};
 ghost use Rattle.replayed.specs.declared.Stage.TheVariants.{Open};
 ghost use Rattle.replayed.specs.Feed.{Came};

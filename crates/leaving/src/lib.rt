@@ -1,4 +1,5 @@
 // S5 to S8 of a steal: a claim that ends its block moves the head on to the next block.
+#![tactic(auto)]
 ghost use Rattle.std.specs.Prelude.{◌≡◌, true, ◌*◌, ◌≤◌};
 ghost use Rattle.index.specs.Position.{position};
 ghost use Rattle.state.specs.List.{claim_good};

@@ -1,5 +1,6 @@
 // The BAD_STATE list, tested item by item in the order of its definition (state, specs/List.antt), and BAD_SETUP before it. Each
 // function answers true where its part of the list is not broken, and no test asks anything of what it is handed.
+#![tactic(auto)]
 ghost use Rattle.std.specs.Prelude.{◌≡◌, ◌&&◌, leb};
 ghost use Rattle.state.specs.List.{counts_good, setup_good, next_good, nexts_good, shared_good, call_good, record_good, state_good};
 

@@ -1,4 +1,5 @@
 // P1 and P2: the loads of the tail.
+#![tactic(auto)]
 ghost use Rattle.std.specs.Prelude.{◌≡◌};
 ghost use Rattle.machine.specs.Push as spec;
 

@@ -1,5 +1,6 @@
 // The machine's definitions (specs/): every line of the step table, one step, a run, and the entries with their
 // refusals. Here are the types of what the entries are asked and answer, and what the lines' functions share.
+#![tactic(auto)]
 ghost use Rattle.std.specs.Prelude.{◌≡◌};
 ghost use Rattle.memory.specs.Touch.{leaves};
 ghost use Rattle.state.specs.Move as move;
@@ -10,7 +11,7 @@ pub mod pushes;
 pub mod steals;
 
 // The calls that a thread may begin.
-#[derive(Drop)]
+#[derive(Clone, Copy)]
 pub enum Request {
     Push(u64),
     Steal,
@@ -20,33 +21,33 @@ pub enum Request {
     Empty,
 }
 
-#[derive(Drop)]
+#[derive(Clone, Copy)]
 pub enum Began {
     Open,
     Refused(Refusal),
 }
 
-#[derive(Drop)]
+#[derive(Clone, Copy)]
 pub struct Begun {
     pub thread: Thread,
     pub answer: Began,
 }
 
-#[derive(Drop)]
+#[derive(Clone, Copy)]
 pub enum Popped {
     Task(u64),
     Nothing,
     Refused(Refusal),
 }
 
-#[derive(Drop)]
+#[derive(Clone, Copy)]
 pub struct RingPopped {
     pub thread: Thread,
     pub answer: Popped,
 }
 
 // What a step or a run gives back; `steps` is the number of table lines made.
-#[derive(Drop)]
+#[derive(Clone, Copy)]
 pub struct Ran {
     pub queue: Queue,
     pub thread: Thread,
@@ -54,20 +55,20 @@ pub struct Ran {
     pub steps: u64,
 }
 
-#[derive(Drop)]
+#[derive(Clone, Copy)]
 pub enum Ready {
     Ready,
     Refused(Refusal),
 }
 
-#[derive(Drop)]
+#[derive(Clone, Copy)]
 pub struct Started {
     pub queue: Queue,
     pub answer: Ready,
 }
 
 // How many blocks the chain from the head's block to the tail's has.
-#[derive(Drop)]
+#[derive(Clone, Copy)]
 pub enum Audited {
     Blocks(u64),
     Unreached,
@@ -75,7 +76,7 @@ pub enum Audited {
 }
 
 // The refusals that every entry tests first, in their order.
-#[derive(Drop)]
+#[derive(Clone, Copy)]
 pub enum Tested {
     Passes,
     Refuses(Refusal),

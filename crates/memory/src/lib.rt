@@ -1,5 +1,6 @@
 // The lent words of the pool. A read past the end is 0 and a store past the end changes nothing, so that
 // no function here asks anything of its caller but that a sum or a product fits.
+#![tactic(auto)]
 ghost use Rattle.std.specs.Prelude.{◌≡◌, ℕ, ◌+◌, ◌*◌, ◌<◌, ◌≤◌, ◌^◌, get_or, set};
 ghost use Rattle.memory.specs.Layout.{token, state, next, is_free};
 ghost use Rattle.memory.specs.Touch.{after, writes_token, links, frees};
@@ -12,14 +13,14 @@ pub const FAR: u64 = 0x1000_0000_0000_0000;
 const FAR_BLOCK: u64 = FAR / BLOCK_WORDS;
 
 // A block, where there is one: a next, a held block, a block taken.
-#[derive(Drop)]
+#[derive(Clone, Copy)]
 pub enum MaybeBlock {
     Nothing,
     Block(u64),
 }
 
 // The bits of a slot's state: WRITE 1, READ 2, DESTROY 4.
-#[derive(Drop)]
+#[derive(Clone, Copy)]
 pub enum Mark {
     Write,
     Read,

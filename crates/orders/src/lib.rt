@@ -1,4 +1,5 @@
 // One command of a thread: what it does to the machine, and what is said of it.
+#![tactic(auto)]
 mod commands;
 mod hears;
 

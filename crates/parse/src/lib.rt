@@ -1,4 +1,5 @@
 // One line of the text, without its line feed, as a command.
+#![tactic(auto)]
 ghost use Rattle.std.specs.Prelude.{◌≡◌};
 ghost use Rattle.text.specs.Line.{parsed, with_one, with_two, with_three};
 

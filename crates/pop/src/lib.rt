@@ -1,4 +1,5 @@
 // The owner's ring pop.
+#![tactic(auto)]
 ghost use Rattle.std.specs.Prelude.{◌≡◌};
 ghost use Rattle.machine.specs.Entry.{popped_as, not_popped, pop_entry};
 

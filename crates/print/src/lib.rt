@@ -1,4 +1,5 @@
 // Answers are written as lines of text into a lent buffer.
+#![tactic(auto)]
 mod answers;
 mod words;
 

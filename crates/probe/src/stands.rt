@@ -8,7 +8,7 @@ use state::{Call, EmptyLine, LengthLine, PushLine, StealLine, Thread};
 // No call is open: `-`.
 const NO_LINE: u64 = 4500;
 
-#[derive(Drop)]
+#[derive(Clone, Copy)]
 pub(crate) struct Stand {
     pub(crate) line: u64,
     pub(crate) count: u64,

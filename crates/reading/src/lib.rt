@@ -1,4 +1,5 @@
 // S9 and S10 of a steal: wait for each claimed slot, read it, and hand the tokens over with the last.
+#![tactic(auto)]
 ghost use Rattle.std.specs.Prelude.{◌≡◌, true, ◌≤◌};
 ghost use Rattle.state.specs.List.{steal_good};
 ghost use Rattle.machine.specs.Steal as spec;

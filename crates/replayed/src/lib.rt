@@ -1,9 +1,10 @@
 // What the replay of a log is: its definition, from the input's bytes to the output's (specs/), and its types.
+#![tactic(auto)]
 use state::{Queue, Thread};
 use text::Word;
 
 // What is said of a command: nothing, a word, or a word with a number.
-#[derive(Drop)]
+#[derive(Clone, Copy)]
 pub enum Said {
     Silent,
     Plain(Word),
@@ -11,7 +12,7 @@ pub enum Said {
 }
 
 // What a command of one thread gives back.
-#[derive(Drop)]
+#[derive(Clone, Copy)]
 pub struct Done {
     pub queue: Queue,
     pub thread: Thread,
@@ -20,7 +21,7 @@ pub struct Done {
 }
 
 // Whether line 1 is still to come, the log is being replayed, or nothing more is read.
-#[derive(Drop)]
+#[derive(Clone, Copy)]
 pub enum Stage {
     First,
     Open,
@@ -28,7 +29,7 @@ pub enum Stage {
 }
 
 // The replay between two reads. `held` bytes of the line were read, 81 where they are more than 80.
-#[derive(Drop)]
+#[derive(Clone, Copy)]
 pub struct Replay {
     pub queue: Queue,
     pub threads: [Thread; 8],
@@ -40,7 +41,7 @@ pub struct Replay {
 }
 
 // What a feed gives back: how many bytes of the piece were read, and how many of the buffer were written.
-#[derive(Drop)]
+#[derive(Clone, Copy)]
 pub struct Fed {
     pub replay: Replay,
     pub read: usize,
@@ -48,7 +49,7 @@ pub struct Fed {
 }
 
 // What a command of one thread changes.
-#[derive(Drop)]
+#[derive(Clone, Copy)]
 pub struct Heard {
     pub queue: Queue,
     pub thread: Thread,
@@ -57,7 +58,7 @@ pub struct Heard {
 }
 
 // What line 1 asks for.
-#[derive(Drop)]
+#[derive(Clone, Copy)]
 pub enum Opening {
     Queue(u64, u64, u64),
     Bad,

@@ -1,29 +1,30 @@
 // A thread's own ring: what a batch moved, for its owner alone. The Rust's `Worker`, on which nobody steals.
+#![tactic(auto)]
 ghost use Rattle.std.specs.Prelude.{◌≡◌, ◌+◌, ◌-◌, ◌<◌, ◌≤◌, get_or};
 ghost use Rattle.ring.specs.Ring.{empty_ring, entered, place_of, popped, shifted};
 
 pub const RING_CAP: u64 = 64;
 
-#[derive(Drop)]
+#[derive(Clone, Copy)]
 pub enum Flavor {
     Fifo,
     Lifo,
 }
 
-#[derive(Drop)]
+#[derive(Clone, Copy)]
 pub struct Ring {
     pub tokens: [u64; 64],
     pub count: u64,
     pub flavor: Flavor,
 }
 
-#[derive(Drop)]
+#[derive(Clone, Copy)]
 pub enum Pop {
     Task(u64),
     Nothing,
 }
 
-#[derive(Drop)]
+#[derive(Clone, Copy)]
 pub struct RingPop {
     pub ring: Ring,
     pub token: Pop,

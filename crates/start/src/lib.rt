@@ -1,4 +1,5 @@
 // A new queue over lent words.
+#![tactic(auto)]
 ghost use Rattle.std.specs.Prelude.{◌≡◌, length};
 ghost use Rattle.machine.specs.Entry.{at_start, set_up, set_up_pool};
 

@@ -1,5 +1,6 @@
 // The types that every layer shares: the Injector's shared words as plain fields, the lines of each call as
 // enums, the thread record, the answers (the BAD_STATE list is specs/List.antt, its code the crates `calls` and `list`).
+#![tactic(auto)]
 ghost use Rattle.std.specs.Prelude.{◌≡◌};
 ghost use Rattle.state.specs.Answers.{number};
 ghost use Rattle.state.specs.Move.{settle};
@@ -9,7 +10,7 @@ use memory::MaybeBlock;
 use ring::Ring;
 
 // The Injector: its two `Position`s, and the counts it was set up with.
-#[derive(Drop)]
+#[derive(Clone, Copy)]
 pub struct Queue {
     pub head: Index,
     pub head_block: u64,
@@ -22,7 +23,7 @@ pub struct Queue {
 
 // The lines of a push. Each carries the token; then the tail index it loaded, the tail's block, and the
 // block it holds, where it has them.
-#[derive(Drop)]
+#[derive(Clone, Copy)]
 pub enum PushLine {
     P1(u64, MaybeBlock),
     P2(u64, Index, MaybeBlock),
@@ -38,7 +39,7 @@ pub enum PushLine {
 }
 
 // `steal`, `steal_batch_with_limit`, `steal_batch_with_limit_and_pop`, with their limits.
-#[derive(Drop)]
+#[derive(Clone, Copy)]
 pub enum Kind {
     Steal,
     Batch(u64),
@@ -46,7 +47,7 @@ pub enum Kind {
 }
 
 // The slots that a thief claims or has claimed: the head index it loaded, the head's block, how many.
-#[derive(Drop)]
+#[derive(Clone, Copy)]
 pub struct Claim {
     pub head: Index,
     pub block: u64,
@@ -54,14 +55,14 @@ pub struct Claim {
 }
 
 // What a thief has won, once its tokens are handed over: its answer when the call ends.
-#[derive(Drop)]
+#[derive(Clone, Copy)]
 pub enum Won {
     Task(u64),
     Moved,
 }
 
 // The lines of a steal and of both batches.
-#[derive(Drop)]
+#[derive(Clone, Copy)]
 pub enum StealLine {
     S1(Kind),
     S2(Kind, Index),
@@ -86,7 +87,7 @@ pub enum StealLine {
 }
 
 // The loads of `len`: tail, head, tail again.
-#[derive(Drop)]
+#[derive(Clone, Copy)]
 pub enum LengthLine {
     L1,
     L2(Index),
@@ -94,13 +95,13 @@ pub enum LengthLine {
 }
 
 // The loads of `is_empty`: head, tail.
-#[derive(Drop)]
+#[derive(Clone, Copy)]
 pub enum EmptyLine {
     E1,
     E2(Index),
 }
 
-#[derive(Drop)]
+#[derive(Clone, Copy)]
 pub enum Call {
     Idle,
     Push(PushLine),
@@ -110,7 +111,7 @@ pub enum Call {
 }
 
 // A thread: its ring, where its call stands, and the tokens a claim has read but not yet handed over.
-#[derive(Drop)]
+#[derive(Clone, Copy)]
 pub struct Thread {
     pub ring: Ring,
     pub call: Call,
@@ -118,7 +119,7 @@ pub struct Thread {
 }
 
 // Document 01's numbers 1 to 9, in their order.
-#[derive(Drop)]
+#[derive(Clone, Copy)]
 pub enum Refusal {
     BadSetup,
     BadState,
@@ -132,7 +133,7 @@ pub enum Refusal {
 }
 
 // The answer of a step or a run.
-#[derive(Drop)]
+#[derive(Clone, Copy)]
 pub enum Answer {
     Open,
     Pushed,
@@ -147,7 +148,7 @@ pub enum Answer {
 }
 
 // What one line makes of the shared words and of its own call; `call` is Idle exactly where `answer` is not Open.
-#[derive(Drop)]
+#[derive(Clone, Copy)]
 pub struct Made {
     pub queue: Queue,
     pub call: Call,
@@ -155,7 +156,7 @@ pub struct Made {
 }
 
 // What one step makes of the shared words and the thread.
-#[derive(Drop)]
+#[derive(Clone, Copy)]
 pub struct Stepped {
     pub queue: Queue,
     pub thread: Thread,

@@ -1,5 +1,6 @@
 // What the step entry over a lent table gives back. Its definition and the laws about it stand here, apart from the entry's
 // own code, so that they are checked by themselves.
+#![tactic(auto)]
 ghost use Rattle.std.specs.Prelude.{◌≡◌};
 ghost use Rattle.tabled.specs.Table.{given, refusal};
 
@@ -7,7 +8,7 @@ use machine::Ran;
 use state::{Answer, Queue, Refusal, Thread};
 
 // What a step of the table gives back; `steps` is the number of table lines made.
-#[derive(Drop)]
+#[derive(Clone, Copy)]
 pub struct TableStep {
     pub queue: Queue,
     pub answer: Answer,

@@ -2,13 +2,14 @@
 // machine. Here are its types.
 
 // No line of the input is longer, before its line feed.
+#![tactic(auto)]
 pub const LINE_CAP: usize = 80;
 
 // The room for one line of the output, which every function that writes one asks for. No line is longer.
 pub const LINE_ROOM: usize = 100;
 
 // A well-formed line, with its numbers in the order in which they stand.
-#[derive(Drop)]
+#[derive(Clone, Copy)]
 pub enum Command {
     Queue(u64, u64, u64),
     Push(u64, u64),
@@ -22,21 +23,21 @@ pub enum Command {
     Run(u64, u64),
 }
 
-#[derive(Drop)]
+#[derive(Clone, Copy)]
 pub enum Parsed {
     Good(Command),
     Bad,
 }
 
 // What a field is as a number: its value, and the place right behind the field.
-#[derive(Drop)]
+#[derive(Clone, Copy)]
 pub enum Number {
     Value(u64, usize),
     Bad,
 }
 
 // The words of the output.
-#[derive(Drop)]
+#[derive(Clone, Copy)]
 pub enum Word {
     Pushed,
     Task,

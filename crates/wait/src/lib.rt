@@ -1,4 +1,5 @@
 // Where a call can only wait while no other thread moves, and where it stands after that many steps of waiting.
+#![tactic(auto)]
 ghost use Rattle.std.specs.Prelude.{◌≡◌};
 ghost use Rattle.wait.specs.Wait.{turns_at, push_wait, none_waits, unwritten_waits, steal_wait, wait_of, waits, waited_call};
 
@@ -7,7 +8,7 @@ use memory::{Mark, MaybeBlock};
 use state::{Call, PushLine, Queue, StealLine};
 
 // How a call waits, if it can only wait.
-#[derive(Drop)]
+#[derive(Clone, Copy)]
 pub enum Wait {
     No,
     // at S5 and S9 it stays where it is
