@@ -57,15 +57,15 @@ inside s k limit h a same n end =
     record { limit = same (le-leb a limit n.few); some-slot = n.some; within = n.fits; end = end }
 
 -- a tail that is laps ahead leaves the block's end below it
-end_advance : (s : State) (k : Kind) (count : ℕ) (h : Index) → Room k count → off h.raw < 63 → lp h.raw < lp (T s)
+end_advance_lem : (s : State) (k : Kind) (count : ℕ) (h : Index) → Room k count → off h.raw < 63 → lp h.raw < lp (T s)
     → Advance s k h.raw (end_advance k h)
-end_advance s Rattle.state.specs.declared.Kind.TheVariants.Steal count h room slot l =
+end_advance_lem s Rattle.state.specs.declared.Kind.TheVariants.Steal count h room slot l =
     one_advance s h.raw slot (omega arith)
-end_advance s (Batch limit) count h room slot l =
+end_advance_lem s (Batch limit) count h room slot l =
     inside s (Batch limit) limit h.raw (to_block_end (position h.raw) limit) (λ e. e)
     (to-end-some (position h.raw) limit slot (open_limit limit (room_good (Batch limit) count) room))
     (to-end-below (position h.raw) (position (T s)) limit l)
-end_advance s (Take limit) count h room slot l =
+end_advance_lem s (Take limit) count h room slot l =
     inside s (Take limit) limit h.raw (to_block_end (position h.raw) limit) (λ e. e)
     (to-end-some (position h.raw) limit slot (open_limit limit (room_good (Take limit) count) room))
     (to-end-below (position h.raw) (position (T s)) limit l)
@@ -112,7 +112,7 @@ s2-to-s4 : (s : State) (k : Kind) (count : ℕ) (h : Index) → Shared s → S2O
 s2-to-s4 s k count h sh p slot e =
     let l : lp h.raw < lp (T s) = p.flag (eqb-true (h.raw % 2) 1 e) in
     claim_ready s k count h.raw (HB s) (end_advance k h) true p.room (at_head s h.raw sh p.seen) slot
-    (end_advance s k count h p.room slot l)
+    (end_advance_lem s k count h p.room slot l)
     (λ q. l)
 
 pub s2-kept : (s : State) (i count : ℕ) (taken : List ℕ) (k : Kind) (h : Index) → Shared s → StealOk s i count taken (S2 k h)
