@@ -1,5 +1,6 @@
 // The pool's supply of blocks: the lowest free one is taken, cleared; and the pool as setup leaves it.
 #![tactic(auto)]
+
 ghost use Rattle.std.specs.Prelude.{◌≡◌, length};
 ghost use Rattle.memory.specs.Touch.{after, clears};
 ghost use Rattle.memory.specs.Pool.{pick, taking, fresh};
