@@ -1,5 +1,6 @@
 // What lies between two indices: whether it is nothing, and how many tokens it holds.
 #![tactic(auto)]
+
 ghost use Rattle.std.specs.Prelude.{◌≡◌, ◌<◌, ◌^◌, eqb};
 ghost use Rattle.index.specs.Position.{position};
 ghost use Rattle.index.specs.Length.{len, moved_on};
