@@ -1,5 +1,6 @@
 // The list's items that a record's call carries: its block numbers, the indices it loaded, its claim and its slot.
 #![tactic(auto)]
+
 ghost use Rattle.std.specs.Prelude.{◌≡◌, ◌&&◌, ◌+◌, min, leb, ltb};
 ghost use Rattle.state.specs.List.{block_good, held_good, loaded_good, slot_good, holds_at_last, push_good, limit_good, room_good, within_limit, claim_good, in_claim, open_good, claim_open, steal_good, length_good, empty_good};
 
@@ -99,6 +100,7 @@ fn holds(q: Queue, t: Index, block: u64, held: u64) -> bool
     place_good(q, t, block) && block_good(q, held)
 }
 
+#[tactic(auto, unfolding(state::specs::List::push_good))]
 pub fn push_good(q: Queue, line: PushLine) -> bool
     ensures { result ≡ push_good q line }
 {
@@ -198,6 +200,7 @@ fn walk_good(q: Queue, block: u64, slot: u64) -> bool
     block_good(q, block) && slot < index::BLOCK_CAP
 }
 
+#[tactic(auto, unfolding(state::specs::List::steal_good))]
 pub fn steal_good(q: Queue, count: u64, line: StealLine) -> bool
     ensures { result ≡ steal_good q count line }
 {
@@ -219,6 +222,7 @@ pub fn steal_good(q: Queue, count: u64, line: StealLine) -> bool
     }
 }
 
+#[tactic(auto, unfolding(state::specs::List::length_good))]
 pub fn length_good(q: Queue, line: LengthLine) -> bool
     ensures { result ≡ length_good q line }
 {
@@ -229,6 +233,7 @@ pub fn length_good(q: Queue, line: LengthLine) -> bool
     }
 }
 
+#[tactic(auto, unfolding(state::specs::List::empty_good))]
 pub fn empty_good(q: Queue, line: EmptyLine) -> bool
     ensures { result ≡ empty_good q line }
 {
