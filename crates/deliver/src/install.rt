@@ -19,6 +19,7 @@ pub fn p5(q: Queue, token: u64, t: Index, b: u64, next: u64) -> Made
 }
 
 // Past the offset that holds no token. The index fits, as at P4.
+#[tactic(auto, unfolding(state::specs::List::push_good))]
 pub fn p6(q: Queue, token: u64, t: Index, b: u64, next: u64) -> Made
     requires next_value { push_good q (PushLine.P6 token t b next) ≡ true }
     requires raw_bound { position q.tail.raw ≤ 4294967295 * 64 }
@@ -31,6 +32,7 @@ pub fn p6(q: Queue, token: u64, t: Index, b: u64, next: u64) -> Made
 }
 
 // The block's word is one more than its number, and fits: `push_good` has it below the pool size.
+#[tactic(auto, unfolding(state::specs::List::push_good))]
 pub fn p7(q: Queue, pool: &mut [u64], token: u64, t: Index, b: u64, next: u64) -> Made
     requires { push_good q (PushLine.P7 token t b next) ≡ true }
     ensures value { result ≡ (spec.p7 q token t b next).made }

@@ -1,5 +1,6 @@
 // P5 to P10 of a push, from its ticket to its end: the next block where the ticket is the block's last, the token.
 #![tactic(auto)]
+
 mod install;
 mod write;
 

@@ -17,6 +17,7 @@ pub fn p8(q: Queue, pool: &mut [u64], token: u64, t: Index, b: u64, held: MaybeB
     to(q, PushLine::P9(token, t, b, held))
 }
 
+#[tactic(auto, unfolding(machine::specs::Push::p9))]
 pub fn p9(q: Queue, pool: &mut [u64], token: u64, t: Index, b: u64, held: MaybeBlock) -> Made
     ensures value { result ≡ (spec.p9 q pool.old token t b held).made }
     ensures pool_after { pool.new ≡ after pool.old (spec.p9 q pool.old token t b held).touch }

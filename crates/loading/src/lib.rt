@@ -1,5 +1,6 @@
 // P1 and P2: the loads of the tail.
 #![tactic(auto)]
+
 ghost use Rattle.std.specs.Prelude.{◌≡◌};
 ghost use Rattle.machine.specs.Push as spec;
 
@@ -16,6 +17,7 @@ pub fn p1(q: Queue, token: u64, held: MaybeBlock) -> Made
     to(q, PushLine::P2(token, t, held))
 }
 
+#[tactic(auto, unfolding(machine::specs::Push::p2))]
 pub fn p2(q: Queue, token: u64, t: Index, held: MaybeBlock) -> Made
     ensures { result ≡ (spec.p2 q token t held).made }
 {
