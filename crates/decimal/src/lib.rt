@@ -1,11 +1,13 @@
 // Numbers of the text: decimals without needless zeros, at most the largest u64.
 #![tactic(auto)]
+
 ghost use Rattle.std.specs.Prelude.{◌≡◌};
 ghost use Rattle.text.specs.Line.{number_at, row_at};
 
 use text::Number;
 
 // The number in the field that starts at `at`.
+#[tactic(auto, using(crate::proofs::Ends::field_ends))]
 pub fn read_number(line: &[u8], at: usize) -> Number
     ensures { result ≡ number_at line.now at }
 {
@@ -29,6 +31,7 @@ pub fn read_number(line: &[u8], at: usize) -> Number
 }
 
 // The row of digits from `at` up to the next tab or the end. A value past the largest is found before it would wrap.
+#[tactic(auto, using(crate::proofs::Ends::row_ends))]
 fn read_row(line: &[u8], at: usize) -> Number
     ensures { result ≡ row_at line.now at }
 {
