@@ -1,6 +1,7 @@
 // The BAD_STATE list, tested item by item in the order of its definition (state, specs/List.antt), and BAD_SETUP before it. Each
 // function answers true where its part of the list is not broken, and no test asks anything of what it is handed.
 #![tactic(auto)]
+
 ghost use Rattle.std.specs.Prelude.{◌≡◌, ◌&&◌, leb};
 ghost use Rattle.state.specs.List.{counts_good, setup_good, next_good, nexts_good, shared_good, call_good, record_good, state_good};
 
@@ -23,6 +24,7 @@ pub fn counts_good(threads: u64, blocks: u64, ceiling: u64) -> bool
     within(2, blocks, 32) && within(1, ceiling, 4294967295)
 }
 
+#[tactic(auto, unfolding(state::specs::List::setup_good))]
 pub fn setup_good(q: Queue, len: u64) -> bool
     ensures { result ≡ setup_good q len }
 {
@@ -54,6 +56,7 @@ pub fn nexts_good(pool: &[u64], blocks: u64) -> bool
     true
 }
 
+#[tactic(auto, unfolding(state::specs::List::shared_good))]
 pub fn shared_good(q: Queue) -> bool
     ensures { result ≡ shared_good q }
 {
@@ -83,6 +86,7 @@ pub fn call_good(q: Queue, count: u64, call: Call) -> bool
     }
 }
 
+#[tactic(auto, unfolding(state::specs::List::record_good))]
 pub fn record_good(q: Queue, thread: Thread) -> bool
     ensures { result ≡ record_good q thread }
 {
