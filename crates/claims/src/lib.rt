@@ -1,5 +1,6 @@
 // S1 to S4 of a steal: load the head, look whether there is something to take, claim it.
 #![tactic(auto)]
+
 ghost use Rattle.std.specs.Prelude.{◌≡◌, true, ◌*◌, ◌≤◌};
 ghost use Rattle.index.specs.Position.{position};
 ghost use Rattle.state.specs.List.{claim_good};
@@ -41,6 +42,7 @@ fn advance_of(kind: Kind, head: Index, tail: Index) -> u64
     }
 }
 
+#[tactic(auto, unfolding(machine::specs::Steal::s2))]
 pub fn s2(q: Queue, kind: Kind, head: Index) -> Made
     ensures { result ≡ (spec.s2 q kind head).made }
 {
@@ -60,6 +62,7 @@ pub fn s2(q: Queue, kind: Kind, head: Index) -> Made
     to(q, StealLine::S3(kind, head, block))
 }
 
+#[tactic(auto, unfolding(machine::specs::Steal::s3))]
 pub fn s3(q: Queue, kind: Kind, head: Index, block: u64) -> Made
     ensures { result ≡ (spec.s3 q kind head block).made }
 {
@@ -78,6 +81,7 @@ pub fn s3(q: Queue, kind: Kind, head: Index, block: u64) -> Made
 
 // The new head fits: the claim ends at the tail or before, and the tail's lap is at most the ceiling.
 // An entry has tested both on the list.
+#[tactic(auto, unfolding(machine::specs::Steal::s4))]
 pub fn s4(q: Queue, kind: Kind, claim: Claim, next: bool) -> Made
     requires claim_value { claim_good q claim ≡ true }
     requires raw_bound { position q.tail.raw ≤ 4294967295 * 64 }

@@ -1,5 +1,6 @@
 // S11 to S14 of a steal: mark the claimed slots read, and destroy the block: the walk down, and its return to the pool.
 #![tactic(auto)]
+
 ghost use Rattle.std.specs.Prelude.{◌≡◌, true};
 ghost use Rattle.memory.specs.Touch.{after};
 ghost use Rattle.state.specs.List.{claim_good, in_claim};
@@ -20,6 +21,7 @@ fn answer_of(won: Won) -> Answer
 }
 
 // The slot is one of the claim, and the claim in its block: tested on the list, so that no sum wraps.
+#[tactic(auto, unfolding(machine::specs::Steal::s11))]
 pub fn s11(q: Queue, pool: &mut [u64], won: Won, claim: Claim, slot: u64) -> Made
     requires claim_value { claim_good q claim ≡ true }
     requires slot_value { in_claim claim slot ≡ true }
@@ -37,6 +39,7 @@ pub fn s11(q: Queue, pool: &mut [u64], won: Won, claim: Claim, slot: u64) -> Mad
     to(q, StealLine::S11(won, claim, slot + 1))
 }
 
+#[tactic(auto, unfolding(machine::specs::Steal::s12))]
 pub fn s12(q: Queue, pool: &[u64], won: Won, block: u64, slot: u64) -> Made
     ensures { result ≡ (spec.s12 q pool.now won block slot).made }
 {
@@ -47,6 +50,7 @@ pub fn s12(q: Queue, pool: &[u64], won: Won, block: u64, slot: u64) -> Made
     to(q, StealLine::S13(won, block, slot))
 }
 
+#[tactic(auto, unfolding(machine::specs::Steal::s13))]
 pub fn s13(q: Queue, pool: &mut [u64], won: Won, block: u64, slot: u64) -> Made
     ensures value { result ≡ (spec.s13 q pool.old won block slot).made }
     ensures pool_after { pool.new ≡ after pool.old (spec.s13 q pool.old won block slot).touch }

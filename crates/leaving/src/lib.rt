@@ -1,5 +1,6 @@
 // S5 to S8 of a steal: a claim that ends its block moves the head on to the next block.
 #![tactic(auto)]
+
 ghost use Rattle.std.specs.Prelude.{◌≡◌, true, ◌*◌, ◌≤◌};
 ghost use Rattle.index.specs.Position.{position};
 ghost use Rattle.state.specs.List.{claim_good};
@@ -9,6 +10,7 @@ use machine::steals::{first, to};
 use memory::MaybeBlock;
 use state::{Claim, Kind, Made, Queue, StealLine};
 
+#[tactic(auto, unfolding(machine::specs::Steal::s5))]
 pub fn s5(q: Queue, pool: &[u64], kind: Kind, claim: Claim) -> Made
     ensures { result ≡ (spec.s5 q pool.now kind claim).made }
 {

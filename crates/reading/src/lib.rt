@@ -1,5 +1,6 @@
 // S9 and S10 of a steal: wait for each claimed slot, read it, and hand the tokens over with the last.
 #![tactic(auto)]
+
 ghost use Rattle.std.specs.Prelude.{◌≡◌, true, ◌≤◌};
 ghost use Rattle.state.specs.List.{steal_good};
 ghost use Rattle.machine.specs.Steal as spec;
@@ -9,6 +10,7 @@ use machine::steals::{first, past, to, walk_below};
 use memory::Mark;
 use state::{Answer, Call, Claim, Kind, Made, Queue, StealLine, Stepped, Thread, Won};
 
+#[tactic(auto, unfolding(machine::specs::Steal::s9))]
 pub fn s9(q: Queue, pool: &[u64], kind: Kind, claim: Claim, slot: u64) -> Made
     ensures { result ≡ (spec.s9 q pool.now kind claim slot).made }
 {
@@ -56,6 +58,7 @@ fn after_reads(won: Won, claim: Claim) -> StealLine
 
 // The list was tested before the step: the slot is one of the claim, so that its place is one of `taken`,
 // and the ring has room for what it is handed.
+#[tactic(auto, unfolding(machine::specs::Steal::s10, state::specs::List::steal_good))]
 pub fn s10(q: Queue, pool: &[u64], thread: Thread, kind: Kind, claim: Claim, slot: u64) -> Stepped
     requires slot_value { steal_good q thread.ring.count (StealLine.S10 kind claim slot) ≡ true }
     requires count_bound { thread.ring.count ≤ 64 }
