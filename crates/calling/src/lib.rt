@@ -1,5 +1,6 @@
 // What a begin gives back: the call at its first line, or the refusal.
 #![tactic(auto)]
+
 ghost use Rattle.std.specs.Prelude.{◌≡◌};
 ghost use Rattle.machine.specs.Entry.{opened, not_begun, begun};
 

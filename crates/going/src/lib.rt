@@ -1,5 +1,6 @@
 // Whether a run goes on after its own step.
 #![tactic(auto)]
+
 ghost use Rattle.std.specs.Prelude.{◌≡◌, ◌&&◌};
 ghost use Rattle.state.specs.List.{shared_good, record_good};
 ghost use Rattle.machine.specs.Step.{is_open};

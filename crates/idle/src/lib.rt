@@ -1,5 +1,6 @@
 // A new thread.
 #![tactic(auto)]
+
 ghost use Rattle.std.specs.Prelude.{◌≡◌};
 ghost use Rattle.machine.specs.Entry.{idle_thread};
 

@@ -1,5 +1,6 @@
 // What a step and a run give back that is refused, and a step that is made.
 #![tactic(auto)]
+
 ghost use Rattle.std.specs.Prelude.{◌≡◌};
 ghost use Rattle.state.specs.declared.Answer.TheVariants.{Refused};
 

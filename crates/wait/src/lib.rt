@@ -1,5 +1,6 @@
 // Where a call can only wait while no other thread moves, and where it stands after that many steps of waiting.
 #![tactic(auto)]
+
 ghost use Rattle.std.specs.Prelude.{◌≡◌};
 ghost use Rattle.wait.specs.Wait.{turns_at, push_wait, none_waits, unwritten_waits, steal_wait, wait_of, waits, waited_call};
 
@@ -72,6 +73,7 @@ fn steal_wait(q: Queue, pool: &[u64], line: StealLine) -> Wait
     }
 }
 
+#[tactic(auto, unfolding(crate::specs::Wait::wait_of))]
 pub fn wait_of(q: Queue, pool: &[u64], call: Call) -> Wait
     ensures { result ≡ wait_of q pool.now call }
 {
