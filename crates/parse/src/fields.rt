@@ -3,6 +3,7 @@ ghost use Rattle.std.specs.Prelude.{◌≡◌, length};
 ghost use Rattle.text.specs.Line.{first, same};
 
 // How long the first field is: the place of the first tab, or the line's end.
+#[tactic(auto, using(crate::proofs::Passing::passing))]
 pub(crate) fn field_end(line: &[u8]) -> usize
     ensures { result ≡ length (first line.now) }
 {
@@ -16,6 +17,7 @@ pub(crate) fn field_end(line: &[u8]) -> usize
     i
 }
 
+#[tactic(auto, using(crate::proofs::Passing::comparing))]
 pub(crate) fn is(a: &[u8], b: &[u8]) -> bool
     ensures { result ≡ same a.now b.now }
 {

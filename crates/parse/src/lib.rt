@@ -1,5 +1,6 @@
 // One line of the text, without its line feed, as a command.
 #![tactic(auto)]
+
 ghost use Rattle.std.specs.Prelude.{◌≡◌};
 ghost use Rattle.text.specs.Line.{parsed, with_one, with_two, with_three};
 
@@ -9,6 +10,7 @@ use text::{Command, LINE_CAP, Number, Parsed};
 
 mod fields;
 
+#[tactic(auto, using(crate::proofs::Places::stops))]
 pub fn parse(line: &[u8]) -> Parsed
     ensures { result ≡ parsed line.now }
 {
@@ -42,6 +44,7 @@ pub fn parse(line: &[u8]) -> Parsed
     Parsed::Bad
 }
 
+#[tactic(auto, unfolding(text::specs::Line::with_one))]
 fn with_one(word: &[u8], a: u64) -> Parsed
     ensures { result ≡ with_one word.now a }
 {
@@ -63,6 +66,7 @@ fn with_one(word: &[u8], a: u64) -> Parsed
     Parsed::Bad
 }
 
+#[tactic(auto, unfolding(text::specs::Line::with_two))]
 fn with_two(word: &[u8], a: u64, b: u64) -> Parsed
     ensures { result ≡ with_two word.now a b }
 {
@@ -81,6 +85,7 @@ fn with_two(word: &[u8], a: u64, b: u64) -> Parsed
     Parsed::Bad
 }
 
+#[tactic(auto, unfolding(text::specs::Line::with_three))]
 fn with_three(word: &[u8], a: u64, b: u64, c: u64) -> Parsed
     ensures { result ≡ with_three word.now a b c }
 {
