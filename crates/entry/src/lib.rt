@@ -1,6 +1,7 @@
 // BAD_SETUP, BAD_STATE, NO_THREAD: tested first by every entry that is handed a thread. Then IDLE, by an entry that goes
 // on with a call, or BUSY, by one that wants none open.
 #![tactic(auto)]
+
 ghost use Rattle.std.specs.Prelude.{◌≡◌};
 ghost use Rattle.machine.specs.Entry.{tested};
 ghost use Rattle.machine.specs.Step.{is_idle};
@@ -9,6 +10,7 @@ ghost use Rattle.entry.specs.Standing.{tested_open, tested_idle};
 use machine::Tested;
 use state::{Call, Queue, Refusal, Thread};
 
+#[tactic(auto, unfolding(machine::specs::Entry::tested))]
 pub fn test(q: Queue, pool: &[u64], thread: Thread, number: u64) -> Tested
     ensures { result ≡ tested q pool.now thread number }
 {
@@ -39,6 +41,7 @@ fn is_idle(call: Call) -> bool
     }
 }
 
+#[tactic(auto, unfolding(crate::specs::Standing::tested_open))]
 pub fn test_open(q: Queue, pool: &[u64], thread: Thread, number: u64) -> Tested
     ensures { result ≡ tested_open q pool.now thread number }
 {
@@ -53,6 +56,7 @@ pub fn test_open(q: Queue, pool: &[u64], thread: Thread, number: u64) -> Tested
     Tested::Passes
 }
 
+#[tactic(auto, unfolding(crate::specs::Standing::tested_idle))]
 pub fn test_idle(q: Queue, pool: &[u64], thread: Thread, number: u64) -> Tested
     ensures { result ≡ tested_idle q pool.now thread number }
 {
