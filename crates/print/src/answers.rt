@@ -11,6 +11,7 @@ const TAB: u8 = 9;
 
 const LINE_FEED: u8 = 10;
 
+#[tactic(auto, using(crate::proofs::Written::number_len))]
 fn number_and(out: &mut [u8], at: usize, n: u64, sep: u8) -> usize
     requires { at + 21 ≤ length out.old }
     ensures wrote { Wrote out.old at (digits n ++ (sep ∷ [])) out.new result }
@@ -21,6 +22,7 @@ fn number_and(out: &mut [u8], at: usize, n: u64, sep: u8) -> usize
     next + 1
 }
 
+#[tactic(auto, using(crate::proofs::Written::word_len))]
 fn word_and(out: &mut [u8], at: usize, word: Word, sep: u8) -> usize
     requires { at + 8 ≤ length out.old }
     ensures wrote { Wrote out.old at (word_bytes word ++ (sep ∷ [])) out.new result }

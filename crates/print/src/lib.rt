@@ -1,5 +1,6 @@
 // Answers are written as lines of text into a lent buffer.
 #![tactic(auto)]
+
 mod answers;
 mod words;
 

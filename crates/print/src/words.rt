@@ -19,6 +19,7 @@ pub fn put_bytes(out: &mut [u8], at: usize, s: &[u8]) -> usize
 }
 
 // The digits of `n`, the front ones first: those of n / 10, and then the last one.
+#[tactic(auto, using(crate::proofs::Written::by_digits))]
 fn put_digits(out: &mut [u8], at: usize, n: u64) -> usize
     requires { at + length (digits n) ≤ length out.old }
     ensures { Wrote out.old at (digits n) out.new result }
@@ -32,6 +33,7 @@ fn put_digits(out: &mut [u8], at: usize, n: u64) -> usize
     last + 1
 }
 
+#[tactic(auto, using(crate::proofs::Written::number_len))]
 pub fn put_number(out: &mut [u8], at: usize, n: u64) -> usize
     // no number of 64 bits has more than 20 digits
     requires { at + 20 ≤ length out.old }
@@ -41,6 +43,7 @@ pub fn put_number(out: &mut [u8], at: usize, n: u64) -> usize
 }
 
 // The letters of a word, and in the last place how many they are: a value for each word, so that the bytes are put once.
+#[tactic(auto, unfolding(text::specs::Print::word_bytes))]
 fn spelt(word: Word) -> [u8; 8]
     ensures result_value { take (get_or result 7 0) result ≡ word_bytes word }
     ensures result_len { length (take (get_or result 7 0) result) ≡ get_or result 7 0 }

@@ -1,0 +1,5 @@
+use Rattle.text.proofs.Writing.{byte}
+use Rattle.print.proofs.answers.word_and.Goals as goal
+
+pub returns-clause-wrote : goal.returns-clause-wrote
+returns-clause-wrote c = byte c.put_word-next.ensures _
