@@ -1,5 +1,6 @@
 // The begins of each call.
 #![tactic(auto)]
+
 ghost use Rattle.std.specs.Prelude.{◌≡◌};
 ghost use Rattle.machine.specs.Entry.{tested_as, begin_entry};
 ghost use Rattle.begin.specs.Asked.{tested_begin};
@@ -23,6 +24,7 @@ fn tested_as(what: Request) -> Kind
 }
 
 // Every refusal of a begin, in order.
+#[tactic(auto, unfolding(crate::specs::Asked::tested_begin))]
 fn test_begin(q: Queue, pool: &[u64], thread: Thread, number: u64, what: Request) -> Tested
     ensures { result ≡ tested_begin q pool.now thread number what }
 {

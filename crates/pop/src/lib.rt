@@ -1,5 +1,6 @@
 // The owner's ring pop.
 #![tactic(auto)]
+
 ghost use Rattle.std.specs.Prelude.{◌≡◌};
 ghost use Rattle.machine.specs.Entry.{popped_as, not_popped, pop_entry};
 

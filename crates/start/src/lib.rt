@@ -1,5 +1,6 @@
 // A new queue over lent words.
 #![tactic(auto)]
+
 ghost use Rattle.std.specs.Prelude.{◌≡◌, length};
 ghost use Rattle.machine.specs.Entry.{at_start, set_up, set_up_pool};
 

@@ -1,0 +1,12 @@
+use Rattle.std.proofs.Common.{sym, ◌∙◌}
+use Rattle.machine.specs.EntryLaws.{pop-made}
+use Rattle.entry.specs.Standing.{is_vacant, pop-not-idle}
+use Rattle.pop.proofs.pop.Goals as goal
+
+pub returns-in-Refuses : goal.returns-in-Refuses
+returns-in-Refuses c = c.not_popped.ensures ∙ sym (pop-not-idle _ _ _ _ (sym c.in-Refuses.ensures))
+
+pub returns : goal.returns
+returns c =
+    let vacant = is_vacant _ _ _ _ (sym c.in_default.ensures) in
+    rw (pop-made _ _ _ _ vacant.passes vacant.idle) (rw (c.popped_as-answer.ensures, c.pop-popped.ensures))
