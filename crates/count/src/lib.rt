@@ -1,6 +1,7 @@
 // The loads of a length, L1 to L3, and of an empty, E1 and E2: one function a line, one shared access each.
 // None touches the lent memory (machine, specs/CountLaws.antt).
 #![tactic(auto)]
+
 ghost use Rattle.std.specs.Prelude.{◌≡◌};
 ghost use Rattle.machine.specs.Count as spec;
 
@@ -30,6 +31,7 @@ fn l2(q: Queue, tail: Index) -> Made
     }
 }
 
+#[tactic(auto, unfolding(machine::specs::Count::l3))]
 fn l3(q: Queue, tail: Index, head: Index) -> Made
     ensures { result ≡ (spec.l3 q tail head).made }
 {
@@ -56,6 +58,7 @@ fn e1(q: Queue) -> Made
     }
 }
 
+#[tactic(auto, unfolding(machine::specs::Count::e2))]
 fn e2(q: Queue, head: Index) -> Made
     ensures { result ≡ (spec.e2 q head).made }
 {

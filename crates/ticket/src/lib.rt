@@ -1,5 +1,6 @@
 // P3 and P4: a block taken where one will be needed, and the ticket.
 #![tactic(auto)]
+
 ghost use Rattle.std.specs.Prelude.{◌≡◌, ◌*◌, ◌≤◌};
 ghost use Rattle.index.specs.Position.{position};
 ghost use Rattle.memory.specs.Touch.{after};
@@ -11,6 +12,7 @@ use machine::pushes::to;
 use memory::MaybeBlock;
 use state::{Answer, Made, PushLine, Queue, Refusal};
 
+#[tactic(auto, unfolding(machine::specs::Push::p3))]
 pub fn p3(q: Queue, pool: &mut [u64], token: u64, t: Index, b: u64) -> Made
     ensures value { result ≡ (spec.p3 q pool.old token t b).made }
     ensures pool_after { pool.new ≡ after pool.old (spec.p3 q pool.old token t b).touch }
@@ -24,6 +26,7 @@ pub fn p3(q: Queue, pool: &mut [u64], token: u64, t: Index, b: u64) -> Made
 
 // The Rust's compare-exchange on the tail index. The bound is the BAD_STATE list's, which the entries
 // test first: with it the new index fits.
+#[tactic(auto, unfolding(machine::specs::Push::p4))]
 pub fn p4(q: Queue, token: u64, t: Index, b: u64, held: MaybeBlock) -> Made
     requires { position q.tail.raw ≤ 4294967295 * 64 }
     ensures { result ≡ (spec.p4 q token t b held).made }
