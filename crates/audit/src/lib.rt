@@ -1,5 +1,6 @@
 // How long the chain of blocks is: the links are followed from the head's block to the tail's.
 #![tactic(auto)]
+
 ghost use Rattle.std.specs.Prelude.{◌≡◌, ◌+◌, ◌<◌, ◌^◌};
 ghost use Rattle.machine.specs.Audit.{chase, audit_entry};
 
@@ -27,6 +28,7 @@ fn chase(pool: &[u64], at: u64, tail: u64, met: u64, left: u64) -> Audited
 }
 
 // It changes nothing.
+#[tactic(auto, unfolding(machine::specs::Audit::audit_entry))]
 pub fn audit(q: Queue, pool: &[u64]) -> Audited
     ensures { result ≡ audit_entry q pool.now }
 {
