@@ -1,5 +1,6 @@
 // The text's side of one line of a log: it is held and parsed, and what is said of it is written.
 #![tactic(auto)]
+
 ghost use Rattle.std.specs.Prelude.{◌≡◌, ◌*◌, min};
 
 mod held;

@@ -19,6 +19,7 @@ pub fn saturating(a: u64, b: u64) -> u64
 }
 
 // The line of output for a command, if there is one.
+#[tactic(auto, using(crate::proofs::Room::lengths))]
 pub fn say(out: &mut [u8], at: usize, line: u64, thread: u64, said: Said) -> usize
     requires { at + 256 ≤ length out.old }
     ensures wrote { Wrote out.old at (said_bytes line thread said) out.new result }
@@ -32,6 +33,7 @@ pub fn say(out: &mut [u8], at: usize, line: u64, thread: u64, said: Said) -> usi
 }
 
 // A malformed line: its number and `bad`, then the end line.
+#[tactic(auto, using(crate::proofs::Room::lengths))]
 pub fn say_bad(out: &mut [u8], at: usize, line: u64, steps: u64) -> usize
     requires { at + 256 ≤ length out.old }
     ensures wrote { Wrote out.old at (bad_bytes line ++ end_bytes steps) out.new result }
@@ -42,6 +44,7 @@ pub fn say_bad(out: &mut [u8], at: usize, line: u64, steps: u64) -> usize
 }
 
 // Line 1 with a count out of range.
+#[tactic(auto, using(crate::proofs::Room::lengths))]
 pub fn say_refused(out: &mut [u8], at: usize) -> usize
     requires { at + 150 ≤ length out.old }
     ensures wrote { Wrote out.old at (refused_bytes 1 1 ++ end_bytes 0) out.new result }
@@ -51,6 +54,7 @@ pub fn say_refused(out: &mut [u8], at: usize) -> usize
     print::put_end(out, next, 0)
 }
 
+#[tactic(auto, using(crate::proofs::Room::lengths))]
 pub fn say_end(out: &mut [u8], at: usize, steps: u64) -> usize
     requires { at + 256 ≤ length out.old }
     ensures wrote { Wrote out.old at (end_bytes steps) out.new result }
