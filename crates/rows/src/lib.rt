@@ -1,12 +1,14 @@
 // What the table's entry tests before it takes a record out: the sizes of what is lent, the list over every record, and
 // the thread's number.
 #![tactic(auto)]
+
 ghost use Rattle.std.specs.Prelude.{◌≡◌, ◌&&◌, ltb, drop};
 ghost use Rattle.state.specs.List.{shared_good, nexts_good};
 ghost use Rattle.rows.specs.Rows.{sizes_good, all_good};
 
 use state::{Queue, Thread};
 
+#[tactic(auto, unfolding(crate::specs::Rows::sizes_good))]
 pub fn sizes_good(q: Queue, records: u64, words: u64) -> bool
     ensures { result ≡ sizes_good q records words }
 {
