@@ -1,5 +1,6 @@
 // One line of the step table: the one at which the thread's call stands.
 #![tactic(auto)]
+
 ghost use Rattle.std.specs.Prelude.{◌≡◌, true, ◌*◌, ◌≤◌};
 ghost use Rattle.index.specs.Position.{position};
 ghost use Rattle.memory.specs.Touch.{after};

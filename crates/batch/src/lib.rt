@@ -1,5 +1,6 @@
 // How much of what lies between two indices a batch claims.
 #![tactic(auto)]
+
 ghost use Rattle.std.specs.Prelude.{◌≡◌};
 ghost use Rattle.index.specs.Position.{position};
 ghost use Rattle.index.specs.Length.{batch_advance, to_block_end};

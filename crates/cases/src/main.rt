@@ -14,6 +14,7 @@
 //   fill T N        the ring of record T holds N tokens
 //   row T           the step entry over the lent records steps record T
 #![tactic(auto)]
+
 mod acts;
 mod board;
 mod reads;

@@ -8,7 +8,7 @@ use Rattle.machine.specs.Step.{step_of, is_idle, is_open}
 use Rattle.machine.specs.Entry.{tested}
 use Rattle.machine.specs.declared.Tested.{Tested}
 use Rattle.machine.specs.declared.Tested.TheVariants.{Passes, Refuses}
-use Rattle.history.specs.Board.{Board, Ask, begins, pops, steps, runs, start, thread_at, asked}
+use Rattle.history.specs.Board.{Board, Ask, begins, pops, steps, runs, thread_at, asked}
 use Rattle.history.specs.Log.{Note, notes_of}
 
 -- the notes of a run: those of each of its steps

@@ -1,5 +1,5 @@
 -- the indices that the compares and stores of the step table write
-use Rattle.std.specs.Prelude.{ℕ, ◌+◌, ◌*◌, ◌-◌, ◌%◌, Bool, true, false, cond}
+use Rattle.std.specs.Prelude.{ℕ, ◌+◌, ◌*◌, ◌-◌, ◌%◌, Bool, cond}
 use Rattle.index.specs.Position.{has_next}
 
 -- n positions on, HAS_NEXT as it is: P4 has n 1, P6 has n 2 from the block's last slot

@@ -1,10 +1,10 @@
--- what everybody cites of positions, laps, offsets and tickets; none is tied to a width
-use Rattle.std.specs.Prelude.{ℕ, ◌+◌, ◌*◌, ◌-◌, ◌%◌, ◌≤◌, ◌<◌, ◌≡◌, refl, Bool, true, false, cond, ◌||◌, ◌↔◌, eqb}
+-- what everybody cites of positions, laps and offsets; none is tied to a width
+use Rattle.std.specs.Prelude.{ℕ, ◌+◌, ◌*◌, ◌-◌, ◌%◌, ◌≤◌, ◌<◌, ◌≡◌, refl, Bool, true, false, cond, ◌||◌, eqb}
 use Rattle.std.proofs.Common.{ap, ◌∙◌, arith, eq-eqb, ne_eqb, eqb-true}
 use Rattle.std.proofs.lemmas.Bool.{eqb-false}
-use Rattle.index.specs.Position.{position, lap, offset, ticket, has_next}
+use Rattle.index.specs.Position.{position, lap, offset, has_next}
 use Rattle.index.specs.Claim.{advanced, with_next, claimed, left_lap}
-use Rattle.index.specs.Length.{to_block_end, half_of, batch_advance, moved_on, len_from, len}
+use Rattle.index.specs.Length.{to_block_end, half_of, batch_advance}
 
 -- a position is its lap and its offset
 pub recombine : (p : ℕ) → 64 * lap p + offset p ≡ p
@@ -17,57 +17,13 @@ offset-below p = omega arith
 pub keeps-lap : (p n : ℕ) → offset p + n ≤ 63 → (lap (p + n) ≡ lap p) × (offset (p + n) ≡ offset p + n)
 keeps-lap p n h = omega arith
 
--- ... and moves the ticket by as much
-pub ticket_add : (p n : ℕ) → offset p + n ≤ 63 → ticket (p + n) ≡ ticket p + n
-ticket_add p n h = omega arith
-
--- past the block's slots comes the next lap's first position, with the same ticket
+-- past the block's slots comes the next lap's first position
 pub next-lap : (p : ℕ) → offset p ≡ 63 → (lap (p + 1) ≡ lap p + 1) × (offset (p + 1) ≡ 0)
 next-lap p h = omega arith
-
-pub ticket-over : (p : ℕ) → offset p ≡ 63 → ticket (p + 1) ≡ ticket p
-ticket-over p h = omega arith
-
--- the ticket grows by exactly one from a position that can hold a token to the next one that can
-pub next-ticket : (p : ℕ) → offset p < 62 → ticket (p + 1) ≡ ticket p + 1
-next-ticket p h = omega arith
-
-pub next-ticket-over : (p : ℕ) → offset p ≡ 62 → (offset (p + 2) ≡ 0) × (ticket (p + 2) ≡ ticket p + 1)
-next-ticket-over p h = omega arith
-
-pub ticket_mono : (p q : ℕ) → p ≤ q → ticket p ≤ ticket q
-ticket_mono p q h = omega arith
-
--- a slot's position and its ticket are on the same side of a mark
-pub slot-before : (l s p : ℕ) → s < 63 → (64 * l + s < p) ↔ (63 * l + s < ticket p)
-slot-before l s p h = (λ a. omega arith, λ a. omega arith)
-
-pub lap-before : (l p : ℕ) → (64 * l + 63 ≤ p) ↔ (63 * l + 63 ≤ ticket p)
-lap-before l p = (λ a. omega arith, λ a. omega arith)
 
 -- a ticket has one lap and one slot
 pub one-slot : (l s k t : ℕ) → s < 63 → t < 63 → 63 * l + s ≡ 63 * k + t → (l ≡ k) × (s ≡ t)
 one-slot l s k t h g e = omega arith
-
--- moving an offset of 63 on leaves it below 63, and keeps the ticket
-moved : (p : ℕ) → (offset (moved_on p) < 63) × (ticket (moved_on p) ≡ ticket p)
-moved p = at (eqb (offset p) 63) refl
-  where
-    at : (b : Bool) → eqb (offset p) 63 ≡ b → (offset (moved_on p) < 63) × (ticket (moved_on p) ≡ ticket p)
-    at true e = rw e (omega (arith, eqb-true (offset p) 63 e))
-    at false e = rw e (omega (arith, eqb-false (offset p) 63 e))
-
--- of two positions that can hold a token, the length counts the tickets between
-len-from : (t h : ℕ) → offset t < 63 → offset h < 63 → ticket h ≤ ticket t → len_from t h ≡ ticket t - ticket h
-len-from t h a b c = omega arith
-
--- the length is the number of tickets from the head to the tail
-pub len_tickets : (t h : ℕ) → h ≤ t → len t h ≡ ticket t - ticket h
-unfolding len
-len_tickets t h b =
-    let m = moved t in
-    let n = moved h in
-    omega (arith, len-from (moved_on t) (moved_on h) m.0 n.0 (omega arith))
 
 -- an advance from p: at least one position, not past the block's end, not above the limit
 pub record Inside (p limit n : ℕ) : Type 0 where
@@ -194,9 +150,6 @@ module _ (h n : ℕ) (next : Bool) where
       → (lap (position (claimed h n next)) ≡ lap (position h)) × (offset (position (claimed h n next)) ≡ offset (position h) + n)
   claimed-inside b = rw claimed-position (keeps-lap (position h) n b)
 
-  pub claimed-ticket : offset (position h) + n ≤ 63 → ticket (position (claimed h n next)) ≡ ticket (position h) + n
-  claimed-ticket b = rw claimed-position (ticket_add (position h) n b)
-
 -- S8's index: one position on, HAS_NEXT as it is given
 pub left-position : (i : ℕ) (next : Bool) → position (left_lap i next) ≡ position i + 1
 left-position i true = omega arith
@@ -214,10 +167,7 @@ pub left-high : (i : ℕ) (next : Bool) → left_lap i next ≤ i + 3
 left-high i true = omega arith
 left-high i false = omega arith
 
--- from a block's end that is the next lap's first position, and no ticket is passed over
+-- from a block's end that is the next lap's first position
 pub left-lap : (i : ℕ) (next : Bool) → offset (position i) ≡ 63
     → (lap (position (left_lap i next)) ≡ lap (position i) + 1) × (offset (position (left_lap i next)) ≡ 0)
 left-lap i next e = rw (left-position i next) (next-lap (position i) e)
-
-pub left-ticket : (i : ℕ) (next : Bool) → offset (position i) ≡ 63 → ticket (position (left_lap i next)) ≡ ticket (position i)
-left-ticket i next e = rw (left-position i next) (ticket-over (position i) e)

@@ -1,5 +1,5 @@
 -- document 01: "Advance" of a batch, and "Length"
-use Rattle.std.specs.Prelude.{ℕ, ◌+◌, ◌*◌, ◌-◌, ◌/◌, min, Bool, not, cond, eqb}
+use Rattle.std.specs.Prelude.{ℕ, ◌+◌, ◌*◌, ◌-◌, ◌/◌, min, cond, eqb}
 use Rattle.index.specs.Position.{position, lap, offset, has_next}
 
 -- min(63 − offset, limit)

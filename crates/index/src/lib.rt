@@ -1,6 +1,7 @@
 // The packed index of the Rust's `Position`: a place in the queue and the HAS_NEXT bit in one number.
 // Nothing here is about 64 bits but the two `requires`, which say that a sum fits.
 #![tactic(auto)]
+
 ghost use Rattle.std.specs.Prelude.{◌≡◌, Bool, true, false, ℕ, ◌+◌, ◌*◌, ◌<◌, ◌≤◌, ◌^◌};
 ghost use Rattle.index.specs.Position.{position, lap, offset, has_next};
 ghost use Rattle.index.specs.Claim.{advanced, with_next, left_lap};

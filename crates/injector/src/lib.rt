@@ -2,6 +2,7 @@
 // and the step entry over a lent table of records. None asks anything of its caller: bad input is refused by number,
 // and a refused entry changes nothing.
 #![tactic(auto)]
+
 pub use audit::audit;
 pub use begin::begin;
 pub use idle::idle_thread;

@@ -10,7 +10,8 @@ use lib.Dec.{eqb, leb, ltb}
 use borrow.Author.Tests.{eq-eqb, eqb-true, eqb-false, le-leb, lt-leb, lt-ltb}
 use Rattle.index.specs.Position.{position, has_next}
 use Rattle.index.specs.Claim.{claimed}
-use Rattle.index.specs.Laws.{claimed-position, claimed-next, claimed_above, claimed-ticket}
+use Rattle.index.specs.Laws.{claimed-position, claimed-next, claimed_above}
+use Rattle.index.proofs.Tickets.{claimed-ticket}
 use Rattle.memory.specs.Touch.{leaves}
 use Rattle.state.specs.Move.{with_head, ends}
 use Rattle.state.specs.declared.Kind.{Kind}

@@ -1,15 +1,14 @@
 -- What everybody uses of the conjuncts: who owns a block, which lap it serves, where its words are.
-use Prim.Native.Nat.{ℕ, ◌+◌, ◌*◌, ◌-◌, ◌≤◌, ◌<◌}
+use Prim.Native.Nat.{ℕ, ◌≤◌, ◌<◌}
 use mathlib.Core.Path.{◌≡◌, refl, sym, ap, subst, ◌∙◌}
 use mathlib.Core.Bool.{Bool, true, false, ◌&&◌, cond}
-use mathlib.Core.Logic.{◌⊎◌, inl, inr, ⊎_elim}
+use mathlib.Core.Logic.{◌⊎◌, inl, inr}
 use native.Mathlib.Omega.{arith}
-use native.Mathlib.Decide.{ℕ_discrete}
 use borrow.Author.Tests.{leb-true}
-use Rattle.memory.specs.Laws.{Room}
+use Rattle.memory.proofs.Laws.{Room}
 use Rattle.state.specs.List.{counts_good}
-use Rattle.invariant.specs.Ghost.{Ghost, Maybe, none, some, Own, Free, Held, Open, Back, lap_of, front, resp}
-use Rattle.invariant.specs.State.{State, lp, off, T, H, N, own}
+use Rattle.invariant.specs.Ghost.{none, some, Own, Free, Held, Open, Back, lap_of}
+use Rattle.invariant.specs.State.{State, lp, T, N, own}
 use Rattle.invariant.specs.Shared.{Shared}
 
 -- what holds of both arms of a test, each under it, holds of the test

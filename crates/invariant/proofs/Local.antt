@@ -1,19 +1,17 @@
 -- Lines that change neither the shared state nor the ghost.
-use Prim.Native.Nat.{ℕ, ◌+◌, ◌*◌, ◌-◌, ◌≤◌, ◌<◌}
-use mathlib.Core.Path.{◌≡◌, refl}
-use mathlib.Core.Bool.{Bool, true, false}
+use Prim.Native.Nat.{ℕ}
+use mathlib.Core.Path.{refl}
 use mathlib.Core.List.{List}
-use native.Mathlib.Omega.{arith}
 use native.Mathlib.Nat.{le_refl}
 use Rattle.memory.specs.Touch.{leaves}
-use Rattle.state.specs.Move.{Move, on, ends}
+use Rattle.state.specs.Move.{on, ends}
 use Rattle.state.specs.declared.Call.{Call}
 use Rattle.state.specs.declared.Answer.{Answer}
 use Rattle.invariant.specs.State.{State}
 use Rattle.invariant.specs.Shared.{Shared}
 use Rattle.invariant.specs.Lines.{CallOk}
 use Rattle.invariant.specs.Rely.{Rely}
-use Rattle.invariant.specs.Kept.{Kept, moved}
+use Rattle.invariant.specs.Kept.{Kept}
 
 pub rely_refl : (j : ℕ) (s : State) → Rely j s s
 rely_refl j s =

@@ -26,7 +26,6 @@ use Rattle.state.specs.declared.Queue.{Queue}
 use Rattle.state.specs.Move.{Step}
 use Rattle.state.specs.declared.Answer.TheVariants.{Open}
 use Rattle.machine.specs.Steal.{s10, handed_over, read_on, won_of, enters_from, walk_below, first, past}
-use Rattle.invariant.specs.Ghost.{front, resp}
 use Rattle.invariant.specs.State.{State, lp, off, tk, np, W, tok}
 use Rattle.invariant.specs.Shared.{Shared}
 use Rattle.invariant.specs.Lines.{StealOk, Room, Tokens, Wrote, WonOk, S9Ok, S10Ok, S11Ok}

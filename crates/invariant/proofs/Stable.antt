@@ -5,7 +5,7 @@ use mathlib.Core.List.{List}
 use native.Mathlib.Omega.{arith}
 use native.Mathlib.Nat.{le_trans, lt_of_lt_of_le}
 use Rattle.index.specs.Position.{position}
-use Rattle.index.specs.Laws.{ticket_mono}
+use Rattle.index.proofs.Tickets.{ticket_mono}
 use Rattle.memory.specs.declared.MaybeBlock.{MaybeBlock}
 use Rattle.memory.specs.declared.MaybeBlock.TheVariants.{Nothing, Block}
 use Rattle.state.specs.declared.Kind.{Kind}

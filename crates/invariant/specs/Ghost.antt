@@ -1,5 +1,5 @@
 -- What no code holds: who pushed and claimed which ticket, which block served which lap, who has each block.
-use Rattle.std.specs.Prelude.{ℕ, ◌≡◌}
+use Rattle.std.specs.Prelude.{ℕ}
 
 -- a number, where there is one
 pub data Maybe : Type 0 where

@@ -2,7 +2,6 @@
 use Rattle.std.specs.Prelude.{ℕ, ◌≡◌, List}
 use Rattle.memory.specs.Touch.{after}
 use Rattle.state.specs.Move.{Move, Step}
-use Rattle.state.specs.declared.Thread.{Thread}
 use Rattle.invariant.specs.Ghost.{Ghost}
 use Rattle.invariant.specs.State.{State}
 use Rattle.invariant.specs.Shared.{Shared}

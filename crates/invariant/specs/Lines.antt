@@ -1,11 +1,10 @@
 -- What holds of a thread at each line of the step table. t and h are raw indices; i is the thread.
-use Rattle.std.specs.Prelude.{ℕ, ◌+◌, ◌*◌, ◌-◌, ◌%◌, ◌≤◌, ◌<◌, ◌≡◌, Bool, true, false, List, length, get_or}
+use Rattle.std.specs.Prelude.{ℕ, ◌+◌, ◌-◌, ◌%◌, ◌≤◌, ◌<◌, ◌≡◌, Bool, true, false, List, length, get_or}
 use Rattle.index.specs.Position.{position, has_next}
 use Rattle.memory.specs.declared.MaybeBlock.{MaybeBlock}
 use Rattle.memory.specs.declared.MaybeBlock.TheVariants.{Nothing, Block}
 use Rattle.state.specs.List.{open_good, within_limit}
 use Rattle.state.specs.declared.Kind.{Kind}
-use Rattle.state.specs.declared.Claim.{Claim}
 use Rattle.state.specs.declared.Won.{Won}
 use Rattle.state.specs.declared.Won.TheVariants.{Task, Moved}
 use Rattle.state.specs.declared.PushLine.{PushLine}
@@ -19,7 +18,7 @@ use Rattle.state.specs.declared.EmptyLine.TheVariants.{E1, E2}
 use Rattle.state.specs.declared.Call.{Call}
 use Rattle.state.specs.declared.Call.TheVariants.{Idle, Push, Steal, Length, Empty}
 use Rattle.state.specs.declared.Thread.{Thread}
-use Rattle.invariant.specs.Ghost.{Own, Held, Back, some, lap_of, front, resp}
+use Rattle.invariant.specs.Ghost.{Held, Back, some, lap_of, front, resp}
 use Rattle.invariant.specs.State.{State, lp, off, tk, T, H, TB, HB, N, L, np, nc, W, R, D, tok, own}
 
 -- a push holds a block

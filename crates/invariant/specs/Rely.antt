@@ -1,7 +1,7 @@
 -- What a step of one thread leaves true for every other thread j: all that j's line can lean on.
-use Rattle.std.specs.Prelude.{ℕ, ◌+◌, ◌*◌, ◌-◌, ◌≤◌, ◌<◌, ◌≡◌, Bool, true, false}
-use Rattle.invariant.specs.Ghost.{Own, Held, some, lap_of, front, resp}
-use Rattle.invariant.specs.State.{State, lp, off, tk, T, H, TB, HB, N, L, np, nc, W, R, D, tok, own}
+use Rattle.std.specs.Prelude.{ℕ, ◌+◌, ◌*◌, ◌-◌, ◌≤◌, ◌<◌, ◌≡◌, true, false}
+use Rattle.invariant.specs.Ghost.{Held, some, lap_of, front, resp}
+use Rattle.invariant.specs.State.{State, lp, off, T, H, TB, HB, N, L, np, nc, W, R, D, tok, own}
 
 pub record Rely (j : ℕ) (s s' : State) : Type 0 where
   -- the counts stay; tail and head only grow

@@ -1,9 +1,9 @@
 -- What holds of the shared state and the ghost alone. l is a lap, b a block, o a slot; slot o of lap l has ticket 63 l + o.
-use Rattle.std.specs.Prelude.{ℕ, ◌+◌, ◌*◌, ◌%◌, ◌≤◌, ◌<◌, ◌≡◌, Bool, true, false, length}
-use Rattle.index.specs.Position.{position, lap, offset}
+use Rattle.std.specs.Prelude.{ℕ, ◌+◌, ◌*◌, ◌%◌, ◌≤◌, ◌<◌, ◌≡◌, true, length}
+use Rattle.index.specs.Position.{position}
 use Rattle.memory.specs.declared.MaybeBlock.TheVariants.{Nothing, Block}
 use Rattle.memory.specs.Layout.{state}
-use Rattle.invariant.specs.Ghost.{Ghost, Own, Free, Held, Open, Back, some, lap_of, front}
+use Rattle.invariant.specs.Ghost.{Free, Held, Open, Back, some, lap_of, front}
 use Rattle.invariant.specs.State.{State, lp, off, T, H, TB, HB, N, L, np, nc, W, R, D, tok, nxt, free, own}
 
 pub record Shared (s : State) : Type 0 where

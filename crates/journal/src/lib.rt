@@ -1,5 +1,6 @@
 // The replay of a log as a library: text goes in, in pieces of any size, and what happened comes out.
 #![tactic(auto)]
+
 ghost use Rattle.std.specs.Prelude.{◌≡◌, false, ◌≤◌, ◌<◌, length, get_or};
 ghost use Rattle.std.proofs.lemmas.List.Edits.{sets};
 ghost use Rattle.replayed.specs.declared.Stage.TheVariants.{First};

@@ -1,5 +1,6 @@
 // The lines after line 1: each a command of one thread.
 #![tactic(auto)]
+
 ghost use Rattle.std.specs.Prelude.{◌≡◌, ◌≤◌, length};
 ghost use Rattle.replayed.specs.declared.Stage.TheVariants.{Open};
 ghost use Rattle.replayed.specs.Feed.{Came};

@@ -1,5 +1,6 @@
 // Replays each log that an argument names, and compares every byte that comes out with the file beside it.
 #![tactic(auto)]
+
 mod cuts;
 mod files;
 

@@ -1,5 +1,5 @@
 -- The step table of document 01, "Length" and "Empty": each load one step, the answer with the last.
-use Rattle.std.specs.Prelude.{ℕ, cond, eqb}
+use Rattle.std.specs.Prelude.{cond, eqb}
 use Rattle.index.specs.Position.{position}
 use Rattle.index.specs.Length.{len}
 use Rattle.index.specs.declared.Index.{Index}

@@ -6,7 +6,7 @@ use Rattle.index.specs.Claim.{advanced, claimed, left_lap}
 use Rattle.index.specs.Length.{to_block_end, batch_advance}
 use Rattle.index.specs.declared.Index.{Index}
 use Rattle.memory.specs.Layout.{token, state, next, has, or}
-use Rattle.memory.specs.Touch.{Touch, leaves, writes_state, frees, after}
+use Rattle.memory.specs.Touch.{Touch, leaves, writes_state, frees}
 use Rattle.memory.specs.declared.MaybeBlock.{MaybeBlock}
 use Rattle.memory.specs.declared.MaybeBlock.TheVariants.{Nothing, Block}
 use Rattle.memory.specs.declared.Mark.TheVariants.{Write, Read, Destroy}
@@ -20,7 +20,6 @@ use Rattle.state.specs.declared.Won.{Won}
 use Rattle.state.specs.declared.Won.TheVariants.{Task, Moved}
 use Rattle.state.specs.declared.StealLine.{StealLine}
 use Rattle.state.specs.declared.StealLine.TheVariants.{S1, S2, S3, S4, S5, S6, S7, S8, S9, S10, S11, S12, S13, S14}
-use Rattle.state.specs.declared.Call.{Call}
 use Rattle.state.specs.declared.Call.TheVariants.{Steal}
 use Rattle.state.specs.declared.Answer.{Answer}
 use Rattle.state.specs.declared.Answer.TheVariants.{Open, Empty, Retry}

@@ -1,6 +1,7 @@
 // The machine's definitions (specs/): every line of the step table, one step, a run, and the entries with their
 // refusals. Here are the types of what the entries are asked and answer, and what the lines' functions share.
 #![tactic(auto)]
+
 ghost use Rattle.std.specs.Prelude.{◌≡◌};
 ghost use Rattle.memory.specs.Touch.{leaves};
 ghost use Rattle.state.specs.Move as move;

@@ -1,5 +1,6 @@
 // The marks of a slot: the Rust's `fetch_or` on its state, and the bits of a state that was seen.
 #![tactic(auto)]
+
 ghost use Rattle.std.specs.Prelude.{◌≡◌};
 ghost use Rattle.memory.specs.Layout.{state, or, has};
 ghost use Rattle.memory.specs.Touch.{after, writes_state};

@@ -1,10 +1,10 @@
--- The cells of the lent memory by name, and what a touch does to each: a store changes its own cell and no other.
+-- The cells of the lent memory by name, and what a touch does to each.
 use Rattle.std.specs.Prelude.{ℕ, ◌+◌, ◌*◌, ◌<◌, ◌≤◌, ◌≡◌, refl, List, length, get_or, set, replicate}
-use Rattle.std.proofs.Common.{ap, ap₂, arith, length-set, get_or-set_same, get_or-set_other}
+use Rattle.std.proofs.Common.{ap, arith, length-set, get_or-set_same}
 use Rattle.std.proofs.Math.Seq.{length-sets}
 use Rattle.memory.specs.Layout.{token_at, state_at, next_at, free_at}
 use Rattle.memory.specs.Touch.{Touch, leaves, writes_token, writes_state, links, frees, clears, after, cleared}
-use Rattle.memory.specs.Lists.{sets_outside, sets-zeros}
+use Rattle.memory.specs.Lists.{sets-zeros}
 
 pub data Cell : Type 0 where
   token_of : (block slot : ℕ) → Cell
@@ -30,25 +30,6 @@ Slotted (token_of b s) = s < 63
 Slotted (state_of b s) = s < 63
 Slotted (next_of b) = Unit
 Slotted (free_of b) = Unit
-
--- two cells never share an address
-pub one_address : (c d : Cell) → Slotted c → Slotted d → address c ≡ address d → c ≡ d
-one_address (token_of b s) (token_of a r) h g e = ap₂ token_of (omega arith) (omega arith)
-one_address (token_of b s) (state_of a r) h g e = absurd (omega arith)
-one_address (token_of b s) (next_of a) h g e = absurd (omega arith)
-one_address (token_of b s) (free_of a) h g e = absurd (omega arith)
-one_address (state_of b s) (token_of a r) h g e = absurd (omega arith)
-one_address (state_of b s) (state_of a r) h g e = ap₂ state_of (omega arith) (omega arith)
-one_address (state_of b s) (next_of a) h g e = absurd (omega arith)
-one_address (state_of b s) (free_of a) h g e = absurd (omega arith)
-one_address (next_of b) (token_of a r) h g e = absurd (omega arith)
-one_address (next_of b) (state_of a r) h g e = absurd (omega arith)
-one_address (next_of b) (next_of a) h g e = ap next_of (omega arith)
-one_address (next_of b) (free_of a) h g e = absurd (omega arith)
-one_address (free_of b) (token_of a r) h g e = absurd (omega arith)
-one_address (free_of b) (state_of a r) h g e = absurd (omega arith)
-one_address (free_of b) (next_of a) h g e = absurd (omega arith)
-one_address (free_of b) (free_of a) h g e = ap free_of (omega arith)
 
 -- a cell's address is among the 128 of its block
 pub in_block : (c : Cell) → Slotted c → (block_of c * 128 ≤ address c) × (address c < block_of c * 128 + 128)
@@ -113,19 +94,6 @@ length-after m (writes_state b s w) = length-set m (state_at b s) w
 length-after m (links b x) = length-set m (next_at b) (x + 1)
 length-after m (frees b) = length-set m (free_at b) 1
 length-after m (clears b) = length-sets m (b * 128) (replicate 128 0)
-
-store_other : (m : List ℕ) (d c : Cell) (v : ℕ) → Slotted d → Slotted c → (c ≡ d → ⊥) → get_or (set m (address d) v) (address c) 0 ≡ get_or m (address c) 0
-store_other m d c v h g n = get_or-set_other m (address d) (address c) v 0 (λ e. n (one_address c d g h e))
-
--- a cell that the touch does not hit keeps its word
-pub untouched : (m : List ℕ) (t : Touch) (c : Cell) → Aimed t → Slotted c → (Hits t c → ⊥) → get_or (after m t) (address c) 0 ≡ get_or m (address c) 0
-unfolding cleared
-untouched m leaves c f g n = refl
-untouched m (writes_token b s v) c f g n = store_other m (token_of b s) c v f g n
-untouched m (writes_state b s w) c f g n = store_other m (state_of b s) c w f g n
-untouched m (links b x) c f g n = store_other m (next_of b) c (x + 1) f g n
-untouched m (frees b) c f g n = store_other m (free_of b) c 1 f g n
-untouched m (clears b) c f g n = sets_outside m (b * 128) 128 0 (address c) (λ h k. n (omega (arith, in_block c g)))
 
 store_same : (m : List ℕ) (d c : Cell) (v : ℕ) → Slotted d → c ≡ d → Room m (block_of c) → get_or (set m (address d) v) (address c) 0 ≡ v
 store_same m d c v h e r =

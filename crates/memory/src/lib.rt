@@ -1,6 +1,7 @@
 // The lent words of the pool. A read past the end is 0 and a store past the end changes nothing, so that
 // no function here asks anything of its caller but that a sum or a product fits.
 #![tactic(auto)]
+
 ghost use Rattle.std.specs.Prelude.{◌≡◌, ℕ, ◌+◌, ◌*◌, ◌<◌, ◌≤◌, ◌^◌, get_or, set};
 ghost use Rattle.memory.specs.Layout.{token, state, next, is_free};
 ghost use Rattle.memory.specs.Touch.{after, writes_token, links, frees};

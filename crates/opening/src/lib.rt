@@ -1,5 +1,6 @@
 // Line 1: the queue line.
 #![tactic(auto)]
+
 ghost use Rattle.std.specs.Prelude.{◌≡◌, ◌≤◌, length, ◌++◌};
 ghost use Rattle.text.specs.Print.{Wrote, bad_bytes, end_bytes};
 ghost use Rattle.replayed.specs.Replay.{over, queue_line, first_line, line_of};

@@ -1,5 +1,6 @@
 // Which thread a command is for, and where its record stands.
 #![tactic(auto)]
+
 ghost use Rattle.std.specs.Prelude.{◌≡◌, ◌<◌};
 ghost use Rattle.replayed.specs.Replay.{place_of};
 ghost use Rattle.replayed.specs.Command.{thread_number};

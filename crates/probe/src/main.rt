@@ -1,6 +1,7 @@
 // Replays the log on standard input, and writes how the machine stands, too: after each command and at the end, in lines
 // that start with `#`. A digit in an argument names a thread that has a Lifo ring.
 #![tactic(auto)]
+
 mod feeds;
 mod flavors;
 mod shows;

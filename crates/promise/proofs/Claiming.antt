@@ -7,7 +7,7 @@ use lib.ListN.{length}
 use lib.Dec.{eqb}
 use borrow.Author.Tests.{eqb-true}
 use Rattle.index.specs.Position.{position}
-use Rattle.index.specs.Laws.{ticket_mono, ticket_add, claimed-ticket}
+use Rattle.index.proofs.Tickets.{ticket_mono, ticket_add, claimed-ticket}
 use Rattle.memory.specs.Touch.{leaves}
 use Rattle.ring.specs.declared.Flavor.{Flavor}
 use Rattle.state.specs.Move.{ends, settled, settle}

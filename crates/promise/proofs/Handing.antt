@@ -9,7 +9,7 @@ use lib.Seq.{slice, length-slice, ext_get_or, get_or-take, get_or-drop}
 use lib.Dec.{eqb}
 use borrow.Author.Tests.{eqb-true}
 use Rattle.index.specs.Position.{position}
-use Rattle.index.specs.Laws.{ticket_mono}
+use Rattle.index.proofs.Tickets.{ticket_mono}
 use Rattle.memory.specs.Layout.{token}
 use Rattle.memory.specs.Touch.{leaves}
 use Rattle.ring.specs.Ring.{contents, in_order, entered}

@@ -9,7 +9,8 @@ use lib.Dec.{leb, eqb}
 use Rattle.index.specs.Position.{position, lap, offset, ticket, has_next}
 use Rattle.index.specs.Claim.{advanced}
 use Rattle.index.specs.Length.{len}
-use Rattle.index.specs.Laws.{advanced-position, left-ticket}
+use Rattle.index.specs.Laws.{advanced-position}
+use Rattle.index.proofs.Tickets.{left-ticket}
 use Rattle.index.specs.declared.Index.{Index}
 use Rattle.memory.specs.Layout.{next, state, has}
 use Rattle.memory.specs.Pool.{pick}

@@ -10,7 +10,6 @@ use lib.ListN.{length, get_or, length-append, get_or-append}
 use lib.Seq.{get_or_at}
 use lib.Dec.{eqb}
 use borrow.Author.Tests.{eqb-true}
-use Rattle.index.specs.Position.{ticket}
 use Rattle.index.specs.Claim.{advanced}
 use Rattle.index.specs.declared.Index.{Index}
 use Rattle.memory.specs.declared.MaybeBlock.{MaybeBlock}

@@ -1,5 +1,6 @@
 // Replays the log on standard input, and says on standard output what happened.
 #![tactic(auto)]
+
 ghost use Rattle.std.specs.Prelude.{◌<◌};
 
 use libc::{STDIN_FILENO, STDOUT_FILENO};

@@ -9,7 +9,7 @@ use lib.Seq.{take-take}
 use lib.Dec.{leb}
 use borrow.Author.Tests.{le-leb}
 use Rattle.replayed.specs.declared.Replay.{Replay}
-use Rattle.replayed.specs.Replay.{Told, byte_told, told, at_first, at_end, replayed}
+use Rattle.replayed.specs.Replay.{Told, byte_told, told, at_first, replayed}
 use Rattle.replayed.specs.Feed.{is_over, taken, reads, fed, ends}
 use Rattle.replayed.specs.Cuts.{Lent, Driven, driven}
 use Rattle.replayed.proofs.Outcome.{behind}

@@ -1,6 +1,6 @@
 -- The lent words stay as many as they were, whatever is read; so every call that has room reads, and a text is read to its end.
-use Prim.Native.Nat.{ℕ, zero, suc, ◌-◌, ◌*◌, ◌≤◌}
-use mathlib.Core.Path.{◌≡◌, refl, sym, ap, ◌∙◌}
+use Prim.Native.Nat.{ℕ, zero, suc, ◌*◌, ◌≤◌}
+use mathlib.Core.Path.{◌≡◌, refl, ◌∙◌}
 use mathlib.Core.Bool.{Bool, true, false, cond}
 use mathlib.Core.List.{List, [], ◌∷◌, ◌++◌}
 use native.Mathlib.Omega.{arith}
@@ -8,7 +8,7 @@ use lib.ListN.{length, take, drop, length-append, length-drop, length-take}
 use lib.Dec.{leb, eqb}
 use borrow.Author.Tests.{le-leb, leb-true, leb-false}
 use Rattle.memory.specs.Cells.{length-after}
-use Rattle.memory.specs.Laws.{length-fresh}
+use Rattle.memory.proofs.Laws.{length-fresh}
 use Rattle.memory.specs.Pool.{pool_len, fresh}
 use Rattle.memory.specs.Touch.{after}
 use Rattle.state.specs.List.{state_good, counts_good}

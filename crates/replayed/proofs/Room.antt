@@ -1,7 +1,5 @@
 -- What one byte makes fits the room that is kept free for it.
-use Prim.Native.Nat.{◌≤◌}
 use mathlib.Core.Path.{◌≡◌, refl}
-use native.Mathlib.Omega.{arith}
 use lib.ListN.{length}
 use Rattle.text.specs.Number.{digits_in, digits}
 use Rattle.text.specs.Print.{word_bytes, refused_bytes}

@@ -1,6 +1,6 @@
 -- The replay after line 1, by its fields, and what a byte makes of it.
 use Prim.Native.Nat.{ℕ, zero, suc, ◌+◌, ◌-◌, ◌*◌, ◌≤◌, ◌<◌, min}
-use mathlib.Core.Path.{◌≡◌, refl, sym, ap, ◌∙◌}
+use mathlib.Core.Path.{◌≡◌, refl, sym, ◌∙◌}
 use mathlib.Core.List.{List, [], ◌∷◌, ◌++◌}
 use native.Mathlib.Nat.{add-zero}
 use native.Mathlib.Omega.{arith}
@@ -18,7 +18,7 @@ use Rattle.replayed.specs.declared.Stage.TheVariants.{Open}
 use Rattle.replayed.specs.declared.Replay.{Replay}
 use Rattle.replayed.specs.Command.{thread_number, order_of, said_bytes}
 use Rattle.replayed.specs.Replay.{most, over, pool_back, place_of, line_as, line_feed, other_byte, byte_told}
-use Rattle.replayed.specs.Feed.{later_of, Outcome, outcome}
+use Rattle.replayed.specs.Feed.{later_of, outcome}
 use Rattle.replayed.proofs.Outcome.{at, outcome-comes, outcome-over}
 use Rattle.replayed.proofs.Orders.{later-good, later-bad}
 

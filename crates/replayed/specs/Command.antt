@@ -1,5 +1,5 @@
 -- What a command makes of the machine, and what the replay says of it.
-use Rattle.std.specs.Prelude.{ℕ, Bool, cond, List, []}
+use Rattle.std.specs.Prelude.{ℕ, List, []}
 use Rattle.state.specs.Answers.{number}
 use Rattle.state.specs.declared.Queue.{Queue}
 use Rattle.state.specs.declared.Thread.{Thread}

@@ -1,6 +1,6 @@
 -- The whole replay, from the input's bytes to the output's bytes: a machine that takes one byte after another, so
 -- that no cut of the text can matter.
-use Rattle.std.specs.Prelude.{ℕ, ◌+◌, ◌*◌, min, Bool, true, false, cond, List, [], ◌∷◌, ◌++◌, length, get_or, set, take, drop, replicate, ltb, leb, eqb}
+use Rattle.std.specs.Prelude.{ℕ, ◌+◌, min, cond, List, [], ◌∷◌, ◌++◌, length, get_or, set, take, drop, replicate, ltb, leb, eqb}
 use Rattle.ring.specs.declared.Flavor.TheVariants.{Fifo}
 use Rattle.memory.specs.Pool.{fresh, pool_len}
 use Rattle.state.specs.List.{counts_good}

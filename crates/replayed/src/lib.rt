@@ -1,5 +1,6 @@
 // What the replay of a log is: its definition, from the input's bytes to the output's (specs/), and its types.
 #![tactic(auto)]
+
 use state::{Queue, Thread};
 use text::Word;
 

@@ -1,5 +1,6 @@
 // A thread's own ring: what a batch moved, for its owner alone. The Rust's `Worker`, on which nobody steals.
 #![tactic(auto)]
+
 ghost use Rattle.std.specs.Prelude.{◌≡◌, ◌+◌, ◌-◌, ◌<◌, ◌≤◌, get_or};
 ghost use Rattle.ring.specs.Ring.{empty_ring, entered, place_of, popped, shifted};
 

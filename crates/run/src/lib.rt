@@ -1,6 +1,7 @@
 // A run of one thread. On a line where the thread can only wait nothing changes while it alone moves, so the
 // rest of the budget is counted in one go.
 #![tactic(auto)]
+
 ghost use Rattle.std.specs.Prelude.{◌≡◌, true, length};
 ghost use Rattle.state.specs.List.{setup_good, state_good};
 ghost use Rattle.machine.specs.Step.{run_from};

@@ -1,5 +1,6 @@
 // What the test programs print with: labels, numbers and answers, to standard output.
 #![tactic(auto)]
+
 use libc::STDOUT_FILENO;
 use state::{Answer, Refusal, refusal_number};
 

@@ -9,12 +9,12 @@ use native.Mathlib.Decide.{ℕ_discrete}
 use native.Mathlib.Nat.{eq-or-lt_of_le}
 use Rattle.index.specs.Position.{position, lap, ticket}
 use Rattle.index.specs.Length.{len}
-use Rattle.index.specs.Laws.{len_tickets}
+use Rattle.index.proofs.Tickets.{len_tickets}
 use Rattle.memory.specs.Layout.{is_free}
 use Rattle.state.specs.declared.Call.{Call}
 use Rattle.state.specs.declared.Call.TheVariants.{Idle}
 use Rattle.history.specs.Board.{Board, thread_at}
-use Rattle.invariant.specs.Ghost.{Own, Free, Held, Open, Back, some, lap_of}
+use Rattle.invariant.specs.Ghost.{Own, Free, Held, Open, Back, lap_of}
 use Rattle.invariant.specs.State.{State, lp, off, T, H, N, free, own}
 use Rattle.invariant.proofs.Facts.{put, put_same, put_other, clash, true-or-false, some_inj, none-some}
 use Rattle.settle.specs.Views.{Carries}

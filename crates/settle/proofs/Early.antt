@@ -1,6 +1,6 @@
 -- What a step makes of a call, as far as early calls go: it leaves the early lines, or is nearer to leaving them, or was
 -- past them before; and then it moves the tail or the head only if that waited at offset 63.
-use Prim.Native.Nat.{ℕ, ◌+◌, ◌-◌, ◌<◌}
+use Prim.Native.Nat.{ℕ, ◌+◌, ◌<◌}
 use mathlib.Core.Path.{◌≡◌, refl, sym, ◌∙◌}
 use mathlib.Core.Bool.{Bool, true, false, cond}
 use mathlib.Core.List.{List}

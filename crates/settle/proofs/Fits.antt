@@ -38,7 +38,7 @@ use Rattle.machine.specs.Step.{After, step_at, step_of, once, counted, run_from,
 use Rattle.machine.specs.Entry.{idle_thread, tested, step_tested, step_entry, run_tested, run_entry}
 use Rattle.machine.specs.declared.Tested.{Tested}
 use Rattle.machine.specs.declared.Tested.TheVariants.{Passes, Refuses}
-use Rattle.history.specs.Board.{Board, Ask, begins, pops, steps, runs, start, thread_at, ran, asked}
+use Rattle.history.specs.Board.{Board, Ask, begins, pops, steps, runs, start, thread_at, asked}
 use Rattle.history.specs.History.{board}
 use Rattle.invariant.proofs.Facts.{cond_elim}
 use Rattle.settle.specs.Rounds.{step_all, after}

@@ -8,7 +8,7 @@ use native.Mathlib.Omega.{arith}
 use lib.Dec.{eqb}
 use borrow.Author.Tests.{eqb-true, eqb-false}
 use Rattle.index.specs.Position.{position}
-use Rattle.index.specs.Laws.{ticket_mono}
+use Rattle.index.proofs.Tickets.{ticket_mono}
 use Rattle.memory.specs.declared.MaybeBlock.{MaybeBlock}
 use Rattle.memory.specs.declared.MaybeBlock.TheVariants.{Nothing, Block}
 use Rattle.state.specs.declared.Kind.{Kind}

@@ -11,7 +11,6 @@ use lib.Seq.{get_or-set_same, get_or-set_other, set-get_or}
 use lib.Dec.{ltb}
 use borrow.Author.Tests.{eq-eqb, lt-ltb, ltb-true, ltb-false}
 use Rattle.memory.specs.Pool.{pool_len}
-use Rattle.memory.specs.Touch.{after}
 use Rattle.ring.specs.declared.Flavor.TheVariants.{Fifo}
 use Rattle.state.specs.List.{counts_good, setup_good}
 use Rattle.state.specs.declared.Call.{Call}

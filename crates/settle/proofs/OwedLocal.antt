@@ -1,7 +1,7 @@
 -- The lines that change neither the shared state nor the ghost nor a view of their thread.
 use Prim.Native.Nat.{ℕ, ◌+◌, ◌*◌, ◌-◌}
 use mathlib.Core.Path.{◌≡◌, refl, ◌∙◌}
-use mathlib.Core.Bool.{Bool, true, not}
+use mathlib.Core.Bool.{Bool, true}
 use mathlib.Core.Logic.{⊎_elim}
 use native.Mathlib.Omega.{arith}
 use lib.Dec.{eqb, leb}
@@ -9,7 +9,7 @@ use Rattle.index.specs.Position.{position, has_next}
 use Rattle.index.specs.declared.Index.{Index}
 use Rattle.memory.specs.declared.MaybeBlock.{MaybeBlock}
 use Rattle.memory.specs.declared.MaybeBlock.TheVariants.{Nothing, Block}
-use Rattle.state.specs.Move.{Move, on, ends}
+use Rattle.state.specs.Move.{Move}
 use Rattle.state.specs.declared.Kind.{Kind}
 use Rattle.state.specs.declared.Claim.{Claim}
 use Rattle.state.specs.declared.Won.{Won}

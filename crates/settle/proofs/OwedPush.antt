@@ -9,9 +9,9 @@ use lib.Dec.{eqb}
 use borrow.Author.Tests.{eqb-false}
 use Rattle.index.specs.Claim.{advanced}
 use Rattle.index.specs.declared.Index.{Index}
-use Rattle.memory.specs.Layout.{has, state}
+use Rattle.memory.specs.Layout.{has}
 use Rattle.memory.specs.Touch.{Touch, clears, frees}
-use Rattle.memory.specs.Laws.{next-links, next-writes_state}
+use Rattle.memory.proofs.Laws.{next-links, next-writes_state}
 use Rattle.memory.specs.declared.MaybeBlock.{MaybeBlock}
 use Rattle.memory.specs.declared.MaybeBlock.TheVariants.{Nothing, Block}
 use Rattle.memory.specs.declared.Mark.TheVariants.{Write}
@@ -26,7 +26,7 @@ use Rattle.invariant.specs.Shared.{Shared}
 use Rattle.invariant.specs.Lines.{Has, P4Ok, P6Ok, P7Ok, P9Ok}
 use Rattle.invariant.proofs.Facts.{put, put_same, cond_elim, true-or-false, clash, none-some, some_inj, one_block}
 use Rattle.invariant.proofs.Lower.{put_elim, differ}
-use Rattle.invariant.proofs.Pool.{given, given-on, Changes, alike, served, p3-changes, p10-changes}
+use Rattle.invariant.proofs.Pool.{given-on, Changes, alike, served, p3-changes, p10-changes}
 use Rattle.invariant.proofs.Ticket.{pushed-on, pusher-before}
 use Rattle.invariant.proofs.Install.{installed}
 use Rattle.invariant.proofs.Link.{linked_on, linked, was}

@@ -6,13 +6,13 @@ use mathlib.Core.Logic.{⊎_elim}
 use mathlib.Core.List.{List}
 use native.Mathlib.Omega.{arith}
 use Rattle.memory.specs.Layout.{state, or}
-use Rattle.memory.specs.Laws.{next-writes_state}
+use Rattle.memory.proofs.Laws.{next-writes_state}
 use Rattle.memory.specs.declared.Mark.{Mark}
 use Rattle.memory.specs.declared.Mark.TheVariants.{Write, Read, Destroy}
 use Rattle.state.specs.declared.Kind.{Kind}
 use Rattle.state.specs.declared.Claim.{Claim}
 use Rattle.state.specs.declared.Won.{Won}
-use Rattle.state.specs.declared.StealLine.TheVariants.{S10, S11, S12, S13, S14}
+use Rattle.state.specs.declared.StealLine.TheVariants.{S10, S11}
 use Rattle.state.specs.declared.Call.{Call}
 use Rattle.state.specs.declared.Call.TheVariants.{Idle, Steal}
 use Rattle.machine.specs.Steal.{walk_below, first, past}

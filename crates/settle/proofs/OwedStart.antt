@@ -17,7 +17,6 @@ use Rattle.invariant.specs.Lines.{ThreadOk}
 use Rattle.invariant.specs.Kept.{stepped}
 use Rattle.invariant.proofs.Facts.{put, cond_pair}
 use Rattle.invariant.proofs.Steps.{step_kept}
-use Rattle.settle.specs.Views.{owes}
 use Rattle.settle.specs.Owed.{Owed}
 use Rattle.settle.proofs.OwedFrame.{PushViews, TakeViews, same-push, same-take}
 use Rattle.settle.proofs.OwedLocal.{stays}

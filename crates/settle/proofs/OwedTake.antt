@@ -9,7 +9,8 @@ use native.Mathlib.Decide.{dec_lt}
 use lib.Dec.{eqb}
 use borrow.Author.Tests.{eqb-true, eqb-false}
 use Rattle.index.specs.Claim.{claimed}
-use Rattle.index.specs.Laws.{claimed-position, claimed-ticket}
+use Rattle.index.specs.Laws.{claimed-position}
+use Rattle.index.proofs.Tickets.{claimed-ticket}
 use Rattle.state.specs.Move.{Move}
 use Rattle.state.specs.declared.Kind.{Kind}
 use Rattle.state.specs.declared.Claim.{Claim}

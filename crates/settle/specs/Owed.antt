@@ -1,5 +1,5 @@
 -- What is missing is owed by a thread that is still open.
-use Rattle.std.specs.Prelude.{ℕ, ◌+◌, ◌*◌, ◌-◌, ◌≤◌, ◌<◌, ◌≡◌, Bool, true, false}
+use Rattle.std.specs.Prelude.{ℕ, ◌+◌, ◌*◌, ◌-◌, ◌≤◌, ◌<◌, ◌≡◌, true, false}
 use Rattle.memory.specs.declared.MaybeBlock.TheVariants.{Nothing}
 use Rattle.state.specs.declared.Call.{Call}
 use Rattle.invariant.specs.Ghost.{some, Held, Back, lap_of, front}

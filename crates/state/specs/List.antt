@@ -1,5 +1,5 @@
 -- The BAD_STATE list of document 01, item by item, as one test: true where the list is not broken.
-use Rattle.std.specs.Prelude.{ℕ, zero, suc, ◌+◌, ◌*◌, ◌-◌, min, Bool, true, false, ◌&&◌, not, cond, List, ltb, leb, eqb}
+use Rattle.std.specs.Prelude.{ℕ, zero, suc, ◌+◌, ◌*◌, ◌-◌, min, Bool, true, ◌&&◌, not, List, ltb, leb, eqb}
 use Rattle.index.specs.Position.{position, offset}
 use Rattle.index.specs.declared.Index.{Index}
 use Rattle.memory.specs.Layout.{next}

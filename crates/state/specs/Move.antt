@@ -1,7 +1,7 @@
 -- What a line makes: of the shared words and its call (`made`), and of the lent memory (`touch`).
-use Rattle.std.specs.Prelude.{ℕ, List}
+use Rattle.std.specs.Prelude.{ℕ}
 use Rattle.index.specs.declared.Index.{Index}
-use Rattle.memory.specs.Touch.{Touch, leaves}
+use Rattle.memory.specs.Touch.{Touch}
 use Rattle.state.specs.declared.Queue.{Queue}
 use Rattle.state.specs.declared.Call.{Call}
 use Rattle.state.specs.declared.Call.TheVariants.{Idle}

@@ -1,6 +1,7 @@
 // The types that every layer shares: the Injector's shared words as plain fields, the lines of each call as
 // enums, the thread record, the answers (the BAD_STATE list is specs/List.antt, its code the crates `calls` and `list`).
 #![tactic(auto)]
+
 ghost use Rattle.std.specs.Prelude.{◌≡◌};
 ghost use Rattle.state.specs.Answers.{number};
 ghost use Rattle.state.specs.Move.{settle};

@@ -1,5 +1,6 @@
 // One step of a thread's open call, with its refusals.
 #![tactic(auto)]
+
 ghost use Rattle.std.specs.Prelude.{◌≡◌};
 ghost use Rattle.machine.specs.Entry.{step_entry};
 

@@ -1,6 +1,7 @@
 // The thin step entry over a lent table of thread records: it takes one record out, steps it by value and stores it
 // back. It asks nothing of its caller, and a refused entry changes neither the table nor the pool.
 #![tactic(auto)]
+
 ghost use Rattle.std.specs.Prelude.{◌≡◌};
 ghost use Rattle.tabled.specs.Table.{table_entry};
 

@@ -1,6 +1,7 @@
 // What the step entry over a lent table gives back. Its definition and the laws about it stand here, apart from the entry's
 // own code, so that they are checked by themselves.
 #![tactic(auto)]
+
 ghost use Rattle.std.specs.Prelude.{◌≡◌};
 ghost use Rattle.tabled.specs.Table.{given, refusal};
 

@@ -3,7 +3,6 @@ use Prim.Native.Nat.{ℕ, ◌^◌, ◌≤◌, ◌<◌}
 use mathlib.Core.List.{[], ◌∷◌, ◌++◌}
 use native.Mathlib.Omega.{arith}
 use lib.ListN.{length, length-append}
-use Rattle.text.specs.Number.{digits}
 use Rattle.text.specs.Print.{line_bytes, line_number_bytes, bad_bytes, refused_bytes, end_bytes, queue_bytes}
 use Rattle.text.specs.declared.Word.{Word}
 use Rattle.text.proofs.Digits.{digits-length}

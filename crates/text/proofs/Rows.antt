@@ -7,7 +7,7 @@ use native.Mathlib.Nat.{add-zero}
 use native.Mathlib.Omega.{arith}
 use lib.ListN.{length, get_or, drop}
 use borrow.Author.Tests.{le-leb, lt-leb, ne_eqb}
-use Rattle.text.specs.Number.{value, none, is_digit, worth, bounded, number}
+use Rattle.text.specs.Number.{none, is_digit, worth, bounded, number}
 use Rattle.text.specs.Line.{first, behind, row_at, number_at}
 use Rattle.text.specs.declared.Number.TheVariants.{Value, Bad}
 use Rattle.text.proofs.Parting.{first-end, first_tab, first_more}

@@ -3,6 +3,7 @@
 
 // No line of the input is longer, before its line feed.
 #![tactic(auto)]
+
 pub const LINE_CAP: usize = 80;
 
 // The room for one line of the output, which every function that writes one asks for. No line is longer.

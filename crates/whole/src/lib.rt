@@ -1,5 +1,6 @@
 // The replay as a whole: at its start, and put together from the fields.
 #![tactic(auto)]
+
 ghost use Rattle.std.specs.Prelude.{◌≡◌};
 ghost use Rattle.replayed.specs.Replay.{over, opens, at_first};
 

@@ -1,5 +1,4 @@
-use Rattle.std.proofs.Common.{rules, sym, ◌∙◌, ap}
-use Rattle.ring.specs.Ring.{pop_some}
+use Rattle.std.proofs.Common.{sym}
 use Rattle.ring.specs.Laws.{popped-zero, popped-some}
 use Rattle.ring.proofs.Ring.pop.Goals as goal
 

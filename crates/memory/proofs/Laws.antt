@@ -12,7 +12,8 @@ use Rattle.memory.specs.Layout.{token, state, next, is_free, link, bit, has, or}
 use Rattle.memory.specs.Touch.{Touch, writes_token, writes_state, links, frees, clears, after}
 use Rattle.memory.specs.Pool.{free_from, pick, freed, fresh, pool_len, table_len}
 pub use Rattle.memory.specs.Cells.{Cell, token_of, state_of, next_of, free_of, address, block_of, Slotted, Room, Aimed, Hits, Of, put}
-pub use Rattle.memory.specs.Cells.{one_address, in_block, of_hit, untouched, touched, cleared-cell, length-after}
+pub use Rattle.memory.specs.Cells.{in_block, of_hit, touched, cleared-cell, length-after}
+pub use Rattle.memory.proofs.Apart.{one_address, untouched}
 
 -- what holds of both arms of a `cond`, each under its test, holds of the `cond`
 cond_elim : {A : Type 0} (P : A → Type 0) (b : Bool) (x y : A) → (b ≡ true → P x) → (b ≡ false → P y) → P (cond b x y)
