@@ -15,6 +15,7 @@ use state::{Queue, StealLine, Stepped, Thread, settle};
 
 // One step of a call that stands at `line`. What it asks is of the list, which an entry tests before it
 // makes a step: the line's claim and slot, the room in the ring, and a tail that is not past the last lap.
+#[tactic(auto, unfolding(state::specs::List::steal_good))]
 pub fn step(q: Queue, pool: &mut [u64], thread: Thread, line: StealLine) -> Stepped
     requires line_value { steal_good q thread.ring.count line ≡ true }
     requires count_bound { thread.ring.count ≤ 64 }
