@@ -10,6 +10,7 @@ ghost use Rattle.machine.specs.Step.{step_of};
 use state::{Answer, Call, Queue, Stepped, Thread};
 
 // The entries have tested the list, from which no sum of a line can wrap.
+#[tactic(auto, unfolding(machine::specs::Step::step_of, state::specs::List::record_good))]
 pub fn advance(q: Queue, pool: &mut [u64], thread: Thread) -> Stepped
     requires thread_value { record_good q thread ≡ true }
     requires raw_bound { position q.tail.raw ≤ 4294967295 * 64 }
