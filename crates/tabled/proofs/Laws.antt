@@ -1,6 +1,6 @@
 -- What the table's entry gives back, case by case, in the order of its tests.
-use Prim.Native.Nat.{ℕ, zero, suc, ◌<◌, ◌≤◌}
-use mathlib.Core.Path.{◌≡◌, refl, sym, ◌∙◌, ap}
+use Prim.Native.Nat.{ℕ, zero, suc, ◌<◌}
+use mathlib.Core.Path.{◌≡◌, refl, ◌∙◌, ap}
 use mathlib.Core.Bool.{Bool, true, false, ◌&&◌}
 use mathlib.Core.List.{List, [], ◌∷◌}
 use native.Mathlib.Omega.{arith}

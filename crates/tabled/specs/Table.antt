@@ -1,6 +1,6 @@
 -- The step entry over a lent table of thread records, with document 01's refusals in their order. A refused entry changes nothing.
 use Rattle.std.specs.Prelude.{ℕ, ◌&&◌, cond, List, ltb, length, set}
-use Rattle.state.specs.List.{shared_good, nexts_good, record_good}
+use Rattle.state.specs.List.{shared_good, nexts_good}
 use Rattle.state.specs.declared.Queue.{Queue}
 use Rattle.state.specs.declared.Thread.{Thread}
 use Rattle.state.specs.declared.Answer.TheVariants.{Refused}
