@@ -26,6 +26,7 @@ fn bad_first(mut replay: Replay, read: usize, out: &mut [u8]) -> Fed
 }
 
 // A queue line: counts out of range are echoed and refused, else the queue is set up.
+#[tactic(auto, using(crate::proofs::Room::lengths))]
 fn open_queue(
     mut replay: Replay,
     read: usize,
