@@ -5,7 +5,7 @@ use mathlib.Core.Bool.{Bool, true, false, ◌&&◌, cond}
 use mathlib.Core.Logic.{◌⊎◌, inl, inr}
 use native.Mathlib.Omega.{arith}
 use borrow.Author.Tests.{leb-true}
-use Rattle.memory.proofs.Laws.{Room}
+use Rattle.memory.specs.Laws.{Room}
 use Rattle.state.specs.List.{counts_good}
 use Rattle.invariant.specs.Ghost.{none, some, Own, Free, Held, Open, Back, lap_of}
 use Rattle.invariant.specs.State.{State, lp, T, N, own}

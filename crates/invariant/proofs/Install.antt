@@ -10,7 +10,7 @@ use borrow.Author.Tests.{eqb-true, eqb-false}
 use Rattle.index.specs.Claim.{advanced}
 use Rattle.index.specs.declared.Index.{Index}
 use Rattle.memory.specs.Layout.{state, has}
-use Rattle.memory.proofs.Laws.{has-none}
+use Rattle.memory.specs.Laws.{has-none}
 use Rattle.memory.specs.declared.MaybeBlock.TheVariants.{Nothing, Block}
 use Rattle.memory.specs.declared.Mark.{Mark}
 use Rattle.memory.specs.declared.Mark.TheVariants.{Write, Read, Destroy}

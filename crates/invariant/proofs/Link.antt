@@ -8,7 +8,8 @@ use native.Mathlib.Decide.{ℕ_discrete}
 use Rattle.index.specs.declared.Index.{Index}
 use Rattle.memory.specs.Layout.{state, has}
 use Rattle.memory.specs.Touch.{links, after}
-use Rattle.memory.proofs.Laws.{state-links, token-links, next-linked, next-links, free-links, length-after}
+use Rattle.memory.specs.Laws.{next-linked, length-after}
+use Rattle.memory.proofs.Apart.{state-links, token-links, next-links, free-links}
 use Rattle.memory.specs.declared.MaybeBlock.{MaybeBlock}
 use Rattle.memory.specs.declared.MaybeBlock.TheVariants.{Nothing, Block}
 use Rattle.memory.specs.declared.Mark.{Mark}

@@ -10,7 +10,8 @@ use borrow.Author.Tests.{eqb-false}
 use lib.Dec.{eqb}
 use Rattle.memory.specs.Layout.{state, has, or}
 use Rattle.memory.specs.Touch.{Touch, writes_state, after}
-use Rattle.memory.proofs.Laws.{length-after, state-written, state-writes_state, token-writes_state, next-writes_state, free-writes_state, has-or, has-or-other}
+use Rattle.memory.specs.Laws.{length-after, state-written, has-or, has-or-other}
+use Rattle.memory.proofs.Apart.{state-writes_state, token-writes_state, next-writes_state, free-writes_state}
 use Rattle.memory.specs.declared.Mark.{Mark}
 use Rattle.memory.specs.declared.Mark.TheVariants.{Write, Read, Destroy}
 use Rattle.state.specs.declared.Claim.{Claim}

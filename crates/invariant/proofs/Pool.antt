@@ -10,7 +10,8 @@ use Rattle.index.specs.declared.Index.{Index}
 use Rattle.memory.specs.Layout.{state, next, is_free, has}
 use Rattle.memory.specs.Touch.{Touch, frees, clears, after}
 use Rattle.memory.specs.Pool.{pick}
-use Rattle.memory.proofs.Laws.{Aimed, Of, Alike, elsewhere, length-after, pick-block, free-freed, free-cleared, next-frees, next-cleared, state-frees, state-cleared}
+use Rattle.memory.specs.Laws.{Aimed, Of, Alike, length-after, pick-block, free-freed, free-cleared, next-cleared, state-cleared}
+use Rattle.memory.proofs.Apart.{elsewhere, next-frees, state-frees}
 use Rattle.memory.specs.declared.MaybeBlock.{MaybeBlock}
 use Rattle.memory.specs.declared.MaybeBlock.TheVariants.{Nothing, Block}
 use Rattle.memory.specs.declared.Mark.{Mark}

@@ -9,7 +9,8 @@ use native.Mathlib.Decide.{ℕ_discrete}
 use Rattle.index.specs.declared.Index.{Index}
 use Rattle.memory.specs.Layout.{state, has, or}
 use Rattle.memory.specs.Touch.{writes_token, writes_state, after}
-use Rattle.memory.proofs.Laws.{Room, length-after, has-or, has-or-other, token-written, token-writes_token, token-writes_state, state-written, state-writes_token, state-writes_state, next-writes_token, next-writes_state, free-writes_token, free-writes_state}
+use Rattle.memory.specs.Laws.{Room, length-after, has-or, has-or-other, token-written, state-written}
+use Rattle.memory.proofs.Apart.{token-writes_token, token-writes_state, state-writes_token, state-writes_state, next-writes_token, next-writes_state, free-writes_token, free-writes_state}
 use Rattle.memory.specs.declared.MaybeBlock.{MaybeBlock}
 use Rattle.memory.specs.declared.MaybeBlock.TheVariants.{Nothing, Block}
 use Rattle.memory.specs.declared.Mark.{Mark}

@@ -3,3 +3,4 @@ pub mod Touch
 pub mod Pool
 pub mod Lists
 pub mod Cells
+pub mod Laws

@@ -9,7 +9,8 @@ use native.Mathlib.Decide.{ℕ_discrete}
 use lib.ListN.{length, get_or, length-map, length-replicate, get_or-map}
 use Rattle.memory.specs.Layout.{state, has}
 use Rattle.memory.specs.Pool.{fresh, pool_len}
-use Rattle.memory.proofs.Laws.{length-fresh, fresh-state, fresh-next, fresh-used, fresh-free, has-none}
+use Rattle.memory.specs.Laws.{length-fresh, has-none}
+use Rattle.memory.proofs.Apart.{fresh-state, fresh-next, fresh-used, fresh-free}
 use Rattle.memory.specs.declared.MaybeBlock.TheVariants.{Block}
 use Rattle.memory.specs.declared.Mark.{Mark}
 use Rattle.memory.specs.declared.Mark.TheVariants.{Write, Read, Destroy}

@@ -8,7 +8,7 @@ use lib.ListN.{length, take, drop, length-append, length-drop, length-take}
 use lib.Dec.{leb, eqb}
 use borrow.Author.Tests.{le-leb, leb-true, leb-false}
 use Rattle.memory.specs.Cells.{length-after}
-use Rattle.memory.proofs.Laws.{length-fresh}
+use Rattle.memory.specs.Laws.{length-fresh}
 use Rattle.memory.specs.Pool.{pool_len, fresh}
 use Rattle.memory.specs.Touch.{after}
 use Rattle.state.specs.List.{state_good, counts_good}

@@ -14,7 +14,8 @@ use Rattle.index.specs.declared.Index.{Index}
 use Rattle.memory.specs.Layout.{next, token, state, has}
 use Rattle.memory.specs.Touch.{Touch, leaves, writes_token, writes_state, links, frees, clears, after}
 use Rattle.memory.specs.Pool.{pool_len, pick}
-use Rattle.memory.proofs.Laws.{Room, length-after, next-writes_token, next-writes_state, next-linked, next-links, next-frees, next-cleared, next-clears}
+use Rattle.memory.specs.Laws.{Room, length-after, next-linked, next-cleared}
+use Rattle.memory.proofs.Apart.{next-writes_token, next-writes_state, next-links, next-frees, next-clears}
 use Rattle.memory.specs.declared.MaybeBlock.{MaybeBlock}
 use Rattle.memory.specs.declared.MaybeBlock.TheVariants.{Nothing, Block}
 use Rattle.memory.specs.declared.Mark.TheVariants.{Write, Read, Destroy}

@@ -11,7 +11,7 @@ use Rattle.index.specs.Claim.{advanced}
 use Rattle.index.specs.declared.Index.{Index}
 use Rattle.memory.specs.Layout.{has}
 use Rattle.memory.specs.Touch.{Touch, clears, frees}
-use Rattle.memory.proofs.Laws.{next-links, next-writes_state}
+use Rattle.memory.proofs.Apart.{next-links, next-writes_state}
 use Rattle.memory.specs.declared.MaybeBlock.{MaybeBlock}
 use Rattle.memory.specs.declared.MaybeBlock.TheVariants.{Nothing, Block}
 use Rattle.memory.specs.declared.Mark.TheVariants.{Write}

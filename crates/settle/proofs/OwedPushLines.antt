@@ -10,7 +10,8 @@ use Rattle.index.specs.declared.Index.{Index}
 use Rattle.memory.specs.Layout.{has, state, or}
 use Rattle.memory.specs.Touch.{Touch, clears, frees, writes_state}
 use Rattle.memory.specs.Pool.{pick}
-use Rattle.memory.proofs.Laws.{pick-block, state-links, state-writes_token, next-writes_token}
+use Rattle.memory.specs.Laws.{pick-block}
+use Rattle.memory.proofs.Apart.{state-links, state-writes_token, next-writes_token}
 use Rattle.memory.specs.declared.MaybeBlock.{MaybeBlock}
 use Rattle.memory.specs.declared.MaybeBlock.TheVariants.{Nothing, Block}
 use Rattle.memory.specs.declared.Mark.TheVariants.{Write, Read, Destroy}
