@@ -11,6 +11,7 @@ pub use tabled::TableStep;
 use tabled::{record_of, refused, rest_of};
 
 // One shared access of the open call of the table's record `number`. That no call is open is refused by the step.
+#[tactic(auto, using(tabled::proofs::Laws::within), unfolding(tabled::specs::Table::table_entry))]
 pub fn step_table(q: Queue, table: &mut [Thread], pool: &mut [u64], number: u64) -> TableStep
     ensures { (result ≡ (table_entry q table.old pool.old number).stepped) × ((table.new ≡ (table_entry q table.old pool.old number).table) × (pool.new ≡ (table_entry q table.old pool.old number).pool)) }
 {
