@@ -1,53 +1,54 @@
-// What the test programs print with: labels, numbers and answers, to standard output.
+// What the test programs print with: labels, numbers and answers, to standard output. A write that fails goes unsaid here: what
+// is missing shows where the output is compared.
 #![tactic(auto)]
 
-use libc::STDOUT_FILENO;
 use state::{Answer, Refusal, refusal_number};
+use std::io::{Print, Stdout};
 
-pub fn text(bytes: &[u8]) {
-    io::write_all(STDOUT_FILENO, bytes);
+pub fn text(out: Stdout, bytes: &[u8]) {
+    let _ = out.write_all(bytes);
 }
 
-pub fn line(bytes: &[u8]) {
-    text(bytes);
-    text(b"\n");
+pub fn line(out: Stdout, bytes: &[u8]) {
+    text(out, bytes);
+    text(out, b"\n");
 }
 
-pub fn number(n: u64) {
-    io::print_decimal(STDOUT_FILENO, n);
+pub fn number(out: Stdout, n: u64) {
+    let _ = out.print(n);
 }
 
-pub fn numbered(word: &[u8], n: u64) {
-    text(word);
-    number(n);
+pub fn numbered(out: Stdout, word: &[u8], n: u64) {
+    text(out, word);
+    number(out, n);
 }
 
-pub fn numbered_line(word: &[u8], n: u64) {
-    numbered(word, n);
-    text(b"\n");
+pub fn numbered_line(out: Stdout, word: &[u8], n: u64) {
+    numbered(out, word, n);
+    text(out, b"\n");
 }
 
-pub fn refused(refusal: Refusal) {
-    numbered(b" -> refused ", refusal_number(refusal));
+pub fn refused(out: Stdout, refusal: Refusal) {
+    numbered(out, b" -> refused ", refusal_number(refusal));
 }
 
-pub fn answer(answer: Answer) {
+pub fn answer(out: Stdout, answer: Answer) {
     match answer {
-        Answer::Open => text(b" -> open"),
-        Answer::Pushed => text(b" -> pushed"),
-        Answer::Task(token) => numbered(b" -> task ", token),
-        Answer::Moved => text(b" -> moved"),
-        Answer::Empty => text(b" -> empty"),
-        Answer::Retry => text(b" -> retry"),
-        Answer::Len(n) => numbered(b" -> len ", n),
-        Answer::Yes => text(b" -> yes"),
-        Answer::No => text(b" -> no"),
-        Answer::Refused(refusal) => refused(refusal),
+        Answer::Open => text(out, b" -> open"),
+        Answer::Pushed => text(out, b" -> pushed"),
+        Answer::Task(token) => numbered(out, b" -> task ", token),
+        Answer::Moved => text(out, b" -> moved"),
+        Answer::Empty => text(out, b" -> empty"),
+        Answer::Retry => text(out, b" -> retry"),
+        Answer::Len(n) => numbered(out, b" -> len ", n),
+        Answer::Yes => text(out, b" -> yes"),
+        Answer::No => text(out, b" -> no"),
+        Answer::Refused(refusal) => refused(out, refusal),
     }
 }
 
 // What a step answered, and the steps that it took.
-pub fn stepped(word: Answer, steps: u64) {
-    answer(word);
-    numbered(b", steps ", steps);
+pub fn stepped(out: Stdout, word: Answer, steps: u64) {
+    answer(out, word);
+    numbered(out, b", steps ", steps);
 }
