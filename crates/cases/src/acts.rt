@@ -3,33 +3,34 @@ use crate::reads::Case;
 use crate::{board, stands};
 use injector::{Audited, Ready};
 use state::{Queue, Thread};
+use std::io::Stdout;
 
-pub(crate) fn act(case: Case, words: Case, pool: &mut [u64]) -> Case {
+pub(crate) fn act(out: Stdout, case: Case, words: Case, pool: &mut [u64]) -> Case {
     if case.letter == b'B' {
         return case;
     }
     if case.letter == b'N' {
-        return set_up(case, words, pool);
+        return set_up(out, case, words, pool);
     }
-    entry(case, words, pool);
+    entry(out, case, words, pool);
     words
 }
 
-fn entry(case: Case, words: Case, pool: &mut [u64]) {
+fn entry(out: Stdout, case: Case, words: Case, pool: &mut [u64]) {
     let letter = case.letter;
     match letter {
-        b'A' => audits(words, pool),
+        b'A' => audits(out, words, pool),
         b'W' => set_word(pool, case.a, case.b),
-        b'P' | b'S' | b'L' | b'E' | b'I' => stand(case, words, pool),
+        b'P' | b'S' | b'L' | b'E' | b'I' => stand(out, case, words, pool),
         _ => {}
     }
 }
 
-fn set_up(case: Case, words: Case, pool: &mut [u64]) -> Case {
+fn set_up(out: Stdout, case: Case, words: Case, pool: &mut [u64]) -> Case {
     board::fill(pool);
     let started = injector::setup(case.a, case.b, case.c, pool);
     let answer = started.answer;
-    say_ready(answer);
+    say_ready(out, answer);
     let queue = started.queue;
     let mut now = board::with_queue(words, queue);
     now.h = case.a;
@@ -37,18 +38,18 @@ fn set_up(case: Case, words: Case, pool: &mut [u64]) -> Case {
     now
 }
 
-fn say_ready(ready: Ready) {
+fn say_ready(out: Stdout, ready: Ready) {
     match ready {
-        Ready::Ready => say::text(b" -> ready"),
-        Ready::Refused(refusal) => say::refused(refusal),
+        Ready::Ready => say::text(out, b" -> ready"),
+        Ready::Refused(refusal) => say::refused(out, refusal),
     }
 }
 
-fn audits(words: Case, pool: &[u64]) {
+fn audits(out: Stdout, words: Case, pool: &[u64]) {
     match injector::audit(board::queue(words), pool) {
-        Audited::Blocks(n) => say::numbered(b" -> blocks ", n),
-        Audited::Unreached => say::text(b" -> tail not reached"),
-        Audited::Refused(refusal) => say::refused(refusal),
+        Audited::Blocks(n) => say::numbered(out, b" -> blocks ", n),
+        Audited::Unreached => say::text(out, b" -> tail not reached"),
+        Audited::Refused(refusal) => say::refused(out, refusal),
     }
 }
 
@@ -59,13 +60,13 @@ fn set_word(pool: &mut [u64], place: u64, word: u64) {
     }
 }
 
-fn stand(case: Case, words: Case, pool: &mut [u64]) {
+fn stand(out: Stdout, case: Case, words: Case, pool: &mut [u64]) {
     let thread = stands::thread(case, words.j);
-    step(board::queue(words), pool, thread);
+    step(out, board::queue(words), pool, thread);
 }
 
-fn step(q: Queue, pool: &mut [u64], thread: Thread) {
+fn step(out: Stdout, q: Queue, pool: &mut [u64], thread: Thread) {
     let ran = injector::step(q, pool, thread, 0);
     let answer = ran.answer;
-    say::stepped(answer, ran.steps);
+    say::stepped(out, answer, ran.steps);
 }

@@ -1,7 +1,6 @@
 // The board: the shared words and what is lent, as the numbers of a `Board` line; and the table of the threads' records, of which
 // the first few are lent to the step entry.
-ghost use Rattle.std.specs.Prelude.{◌≡◌, ◌++◌, ◌≤◌, take, drop};
-ghost use Rattle.io.specs.Counts.{IsPrefixLen};
+ghost use Rattle.std.specs.Prelude.{◌≡◌, ◌++◌, ◌≤◌, length, take, drop};
 ghost use Rattle.tabled.specs.Table.{table_entry};
 
 use crate::reads::{Case, NONE};
@@ -34,7 +33,7 @@ pub(crate) fn lend(
 
 // So many words of the pool, and not more than it has. It takes the pool and not its length so that the contract can speak of them.
 pub(crate) fn front(number: u64, pool: &[u64]) -> usize
-    ensures { IsPrefixLen result pool.now }
+    ensures { result ≤ length pool.now }
 {
     let n = number as usize;
     if n <= pool.len() {

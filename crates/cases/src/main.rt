@@ -21,30 +21,35 @@ mod reads;
 mod records;
 mod stands;
 
-use libc::STDIN_FILENO;
+use std::io;
+use std::io::{Read, Stdout};
 
 // The words of the largest pool: 32 blocks of 128.
 const POOL_WORDS: usize = 4096;
 
-fn play(input: &[u8], pool: &mut [u64]) {
+// More cases than these bytes hold are not read.
+const INPUT_BYTES: u64 = 65536;
+
+fn play(out: Stdout, input: &[u8], pool: &mut [u64]) {
     let mut words = board::nothing();
     let mut board = records::start(words);
     let mut at = 0;
     while at < input.len() {
-        let case = reads::read_case(input, at);
+        let case = reads::read_case(out, input, at);
         at = case.next;
         let lent = board::front(words.i, pool);
-        words = acts::act(case, words, &mut pool[..lent]);
+        words = acts::act(out, case, words, &mut pool[..lent]);
         let lent = board::front(words.i, pool);
         board = records::act(case, words, &mut pool[..lent], board);
         let step = board.step;
-        words = records::after(case.letter, words, step);
+        words = records::after(out, case.letter, words, step);
     }
 }
 
-fn main() {
-    let mut input = io::large_buffer();
-    let n = io::read_full(STDIN_FILENO, &mut input);
+fn main(rt: HostRuntime) -> io::Result<()> {
+    let mut input = Vec::new(rt.alloc());
+    rt.stdin().take(INPUT_BYTES).read_to_end(&mut input)?;
     let mut pool = [0u64; POOL_WORDS];
-    play(&input[..n], &mut pool);
+    play(rt.stdout(), input.as_slice(), &mut pool);
+    Ok(())
 }

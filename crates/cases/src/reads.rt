@@ -1,6 +1,8 @@
 // Reads a line: its first letter, and its numbers.
 ghost use Rattle.std.specs.Prelude.{◌<◌, ◌≤◌, length};
 
+use std::io::Stdout;
+
 // What stands for a number that is not there.
 pub(crate) const NONE: u64 = 18446744073709551615;
 
@@ -38,13 +40,13 @@ fn line_end(input: &[u8], at: usize) -> usize
 }
 
 // The line that starts at `at`; it is printed, too.
-pub(crate) fn read_case(input: &[u8], at: usize) -> Case
+pub(crate) fn read_case(out: Stdout, input: &[u8], at: usize) -> Case
     requires { at < length input.now }
     ensures { at < result.next }
 {
     let end = line_end(input, at);
     let line = &input[at..end];
-    say::text(line);
+    say::text(out, line);
     Case {
         letter: input[at],
         line: number(line, 0),

@@ -6,6 +6,7 @@ use crate::reads::Case;
 use injector::{Request, TableStep};
 use ring::Flavor;
 use state::{Answer, Thread};
+use std::io::Stdout;
 
 fn none(words: Case) -> TableStep {
     TableStep {
@@ -44,14 +45,14 @@ fn row(number: u64, words: Case, pool: &mut [u64], b: Lent) -> Lent {
 }
 
 // Ends the line. A step of the table leaves other shared words.
-pub(crate) fn after(letter: u8, words: Case, step: TableStep) -> Case {
+pub(crate) fn after(out: Stdout, letter: u8, words: Case, step: TableStep) -> Case {
     if letter != b'r' {
-        say::line(b"");
+        say::line(out, b"");
         return words;
     }
     let answer = step.answer;
-    say::answer(answer);
-    say::numbered_line(b", steps ", step.steps);
+    say::answer(out, answer);
+    say::numbered_line(out, b", steps ", step.steps);
     let queue = step.queue;
     board::with_queue(words, queue)
 }
