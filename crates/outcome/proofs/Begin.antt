@@ -2,7 +2,7 @@
 use mathlib.Core.Path.{refl}
 use Rattle.outcome.specs.One.{One}
 use Rattle.outcome.proofs.Equations.{both}
-use Rattle.begin.proofs as begin
+use Rattle.begin as begin
 
-pub begin_begin : One begin.begin.ended begin.begin.Reads.Learnt
+pub begin_begin : One begin.specs.contracts.begin.ended begin.proofs.begin.Reads.Learnt
 begin_begin _ _ _ _ _ _ p q = (both p q, refl)

@@ -2,13 +2,13 @@
 use mathlib.Core.Path.{refl}
 use Rattle.outcome.specs.One.{One}
 use Rattle.outcome.proofs.Equations.{both}
-use Rattle.entry.proofs as entry
+use Rattle.entry as entry
 
-pub test : One entry.test.ended entry.test.Reads.Learnt
+pub test : One entry.specs.contracts.test.ended entry.proofs.test.Reads.Learnt
 test _ _ _ _ _ _ p q = (both p q, refl)
 
-pub test_open : One entry.test_open.ended entry.test_open.Reads.Learnt
+pub test_open : One entry.specs.contracts.test_open.ended entry.proofs.test_open.Reads.Learnt
 test_open _ _ _ _ _ _ p q = (both p q, refl)
 
-pub test_idle : One entry.test_idle.ended entry.test_idle.Reads.Learnt
+pub test_idle : One entry.specs.contracts.test_idle.ended entry.proofs.test_idle.Reads.Learnt
 test_idle _ _ _ _ _ _ p q = (both p q, refl)

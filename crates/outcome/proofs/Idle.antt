@@ -2,7 +2,7 @@
 use mathlib.Core.Path.{refl}
 use Rattle.outcome.specs.One.{One}
 use Rattle.outcome.proofs.Equations.{both}
-use Rattle.idle.proofs as idle
+use Rattle.idle as idle
 
-pub idle_thread : One idle.idle_thread.ended idle.idle_thread.Reads.Learnt
+pub idle_thread : One idle.specs.contracts.idle_thread.ended idle.proofs.idle_thread.Reads.Learnt
 idle_thread _ _ _ _ _ _ p q = (both p q, refl)

@@ -1,12 +1,12 @@
 -- Each public function of `later` has one outcome at most.
-use mathlib.Core.Path.{◌≡◌, ap}
+use mathlib.Core.Path.{ap}
 use Rattle.outcome.specs.One.{One}
 use Rattle.outcome.proofs.Equations.{both, pair, first, later as past}
 use Rattle.outcome.proofs.Opening.{whole}
 use Rattle.replayed.specs.Feed.{Outcome}
-use Rattle.later.proofs as later
+use Rattle.later as later
 
-pub feed_open : One later.feed_open.ended later.feed_open.Reads.Learnt
+pub feed_open : One later.specs.contracts.feed_open.ended later.proofs.feed_open.Reads.Learnt
 feed_open _ _ _ _ _ _ p q =
     let e = both p.comes q.comes in (
       whole (ap (λ (o : Outcome). o.replay) e) (ap (λ (o : Outcome). o.read) e) (ap (λ (o : Outcome). o.written) e),

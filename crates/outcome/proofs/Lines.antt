@@ -2,31 +2,31 @@
 use mathlib.Core.Path.{refl}
 use Rattle.outcome.specs.One.{One}
 use Rattle.outcome.proofs.Equations.{both, first}
-use Rattle.lines.proofs as lines
+use Rattle.lines as lines
 
-pub words : One lines.words.ended lines.words.Reads.Learnt
+pub words : One lines.specs.contracts.words.ended lines.proofs.words.Reads.Learnt
 words _ _ _ _ _ _ p q = (both p q, refl)
 
-pub first_line : One lines.first_line.ended lines.first_line.Reads.Learnt
+pub first_line : One lines.specs.contracts.first_line.ended lines.proofs.first_line.Reads.Learnt
 first_line _ _ _ _ _ _ p q = (both p q, refl)
 
-pub later_line : One lines.later_line.ended lines.later_line.Reads.Learnt
+pub later_line : One lines.specs.contracts.later_line.ended lines.proofs.later_line.Reads.Learnt
 later_line _ _ _ _ _ _ p q = (both p q, refl)
 
-pub hold : One lines.hold.ended lines.hold.Reads.Learnt
+pub hold : One lines.specs.contracts.hold.ended lines.proofs.hold.Reads.Learnt
 hold _ _ _ _ _ _ p q = (both p.0 q.0, first (both p.1 q.1))
 
-pub saturating : One lines.saturating.ended lines.saturating.Reads.Learnt
+pub saturating : One lines.specs.contracts.saturating.ended lines.proofs.saturating.Reads.Learnt
 saturating _ _ _ _ _ _ p q = (both p q, refl)
 
-pub say : One lines.say.ended lines.say.Reads.Learnt
+pub say : One lines.specs.contracts.say.ended lines.proofs.say.Reads.Learnt
 say _ _ _ _ _ _ p q = (both p.0.place q.0.place, first (both p.0.buffer q.0.buffer))
 
-pub say_bad : One lines.say_bad.ended lines.say_bad.Reads.Learnt
+pub say_bad : One lines.specs.contracts.say_bad.ended lines.proofs.say_bad.Reads.Learnt
 say_bad _ _ _ _ _ _ p q = (both p.0.place q.0.place, first (both p.0.buffer q.0.buffer))
 
-pub say_refused : One lines.say_refused.ended lines.say_refused.Reads.Learnt
+pub say_refused : One lines.specs.contracts.say_refused.ended lines.proofs.say_refused.Reads.Learnt
 say_refused _ _ _ _ _ _ p q = (both p.0.place q.0.place, first (both p.0.buffer q.0.buffer))
 
-pub say_end : One lines.say_end.ended lines.say_end.Reads.Learnt
+pub say_end : One lines.specs.contracts.say_end.ended lines.proofs.say_end.Reads.Learnt
 say_end _ _ _ _ _ _ p q = (both p.0.place q.0.place, first (both p.0.buffer q.0.buffer))

@@ -2,22 +2,22 @@
 use mathlib.Core.Path.{refl}
 use Rattle.outcome.specs.One.{One}
 use Rattle.outcome.proofs.Equations.{both}
-use Rattle.machine.proofs as machine
+use Rattle.machine as machine
 
-pub ends : One machine.ends.ended machine.ends.Reads.Learnt
+pub ends : One machine.specs.contracts.ends.ended machine.proofs.ends.Reads.Learnt
 ends _ _ _ _ _ _ p q = (both p q, refl)
 
-pub pushes_to : One machine.pushes.to.ended machine.pushes.to.Reads.Learnt
+pub pushes_to : One machine.specs.contracts.pushes.to.ended machine.proofs.pushes.to.Reads.Learnt
 pushes_to _ _ _ _ _ _ p q = (both p q, refl)
 
-pub steals_to : One machine.steals.to.ended machine.steals.to.Reads.Learnt
+pub steals_to : One machine.specs.contracts.steals.to.ended machine.proofs.steals.to.Reads.Learnt
 steals_to _ _ _ _ _ _ p q = (both p q, refl)
 
-pub steals_first : One machine.steals.first.ended machine.steals.first.Reads.Learnt
+pub steals_first : One machine.specs.contracts.steals.first.ended machine.proofs.steals.first.Reads.Learnt
 steals_first _ _ _ _ _ _ p q = (both p q, refl)
 
-pub steals_past : One machine.steals.past.ended machine.steals.past.Reads.Learnt
+pub steals_past : One machine.specs.contracts.steals.past.ended machine.proofs.steals.past.Reads.Learnt
 steals_past _ _ _ _ _ _ p q = (both p q, refl)
 
-pub steals_walk_below : One machine.steals.walk_below.ended machine.steals.walk_below.Reads.Learnt
+pub steals_walk_below : One machine.specs.contracts.steals.walk_below.ended machine.proofs.steals.walk_below.Reads.Learnt
 steals_walk_below _ _ _ _ _ _ p q = (both p q, refl)

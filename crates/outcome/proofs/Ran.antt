@@ -2,10 +2,10 @@
 use mathlib.Core.Path.{refl}
 use Rattle.outcome.specs.One.{One}
 use Rattle.outcome.proofs.Equations.{both}
-use Rattle.ran.proofs as ran
+use Rattle.ran as ran
 
-pub refused : One ran.refused.ended ran.refused.Reads.Learnt
+pub refused : One ran.specs.contracts.refused.ended ran.proofs.refused.Reads.Learnt
 refused _ _ _ _ _ _ p q = (both p q, refl)
 
-pub counted : One ran.counted.ended ran.counted.Reads.Learnt
+pub counted : One ran.specs.contracts.counted.ended ran.proofs.counted.Reads.Learnt
 counted _ _ _ _ _ _ p q = (both p q, refl)

@@ -2,13 +2,13 @@
 use mathlib.Core.Path.{refl}
 use Rattle.outcome.specs.One.{One}
 use Rattle.outcome.proofs.Equations.{both}
-use Rattle.ring.proofs as ring
+use Rattle.ring as ring
 
-pub new : One ring.Ring.new.ended ring.Ring.new.Reads.Learnt
+pub new : One ring.specs.contracts.Ring.new.ended ring.proofs.Ring.new.Reads.Learnt
 new _ _ _ _ _ _ p q = (both p q, refl)
 
-pub enter : One ring.Ring.enter.ended ring.Ring.enter.Reads.Learnt
+pub enter : One ring.specs.contracts.Ring.enter.ended ring.proofs.Ring.enter.Reads.Learnt
 enter _ _ _ _ _ _ p q = (both p q, refl)
 
-pub pop : One ring.Ring.pop.ended ring.Ring.pop.Reads.Learnt
+pub pop : One ring.specs.contracts.Ring.pop.ended ring.proofs.Ring.pop.Reads.Learnt
 pop _ _ _ _ _ _ p q = (both p q, refl)

@@ -2,13 +2,13 @@
 use mathlib.Core.Path.{refl}
 use Rattle.outcome.specs.One.{One}
 use Rattle.outcome.proofs.Equations.{both}
-use Rattle.tabled.proofs as tabled
+use Rattle.tabled as tabled
 
-pub record_of : One tabled.record_of.ended tabled.record_of.Reads.Learnt
+pub record_of : One tabled.specs.contracts.record_of.ended tabled.proofs.record_of.Reads.Learnt
 record_of _ _ _ _ _ _ p q = (both p q, refl)
 
-pub rest_of : One tabled.rest_of.ended tabled.rest_of.Reads.Learnt
+pub rest_of : One tabled.specs.contracts.rest_of.ended tabled.proofs.rest_of.Reads.Learnt
 rest_of _ _ _ _ _ _ p q = (both p q, refl)
 
-pub refused : One tabled.refused.ended tabled.refused.Reads.Learnt
+pub refused : One tabled.specs.contracts.refused.ended tabled.proofs.refused.Reads.Learnt
 refused _ _ _ _ _ _ p q = (both p q, refl)
