@@ -6,6 +6,9 @@ const POOL_WORDS: usize = 4096;
 // A longer log is cut at its first bytes only, or the gate would wait for it.
 const MOST_CUTS: usize = 600;
 
+// The room for what one feed makes, and the length of the long line.
+const BUFFER_BYTES: usize = 65536;
+
 // A place past all that is owed: something else came out.
 const LOST: usize = 18446744073709551615;
 
@@ -21,7 +24,7 @@ fn owed(out: &[u8], written: usize, expected: &[u8], at: usize) -> usize {
         return LOST;
     }
     let next = at + written;
-    if check::same(&out[0..written], &expected[at..next]) {
+    if out[0..written] == expected[at..next] {
         return next;
     }
     LOST
@@ -62,7 +65,7 @@ fn same_cut(
 // Whole, and cut in two after each byte.
 pub(crate) fn all_same(log: &[u8], expected: &[u8]) -> bool {
     let mut pool = [0u64; POOL_WORDS];
-    let mut out = io::large_buffer();
+    let mut out = [0u8; BUFFER_BYTES];
     let mut cut = 0;
     while cut < MOST_CUTS {
         if log.len() < cut {
@@ -79,9 +82,11 @@ pub(crate) fn all_same(log: &[u8], expected: &[u8]) -> bool {
 // Line 2 is longer than any buffer and has no line feed.
 pub(crate) fn long_line_same() -> bool {
     let mut pool = [0u64; POOL_WORDS];
-    let mut out = io::large_buffer();
-    let mut log = io::large_buffer();
-    let cut = bytes::copy(b"queue\t1\t2\t1\n", &mut log);
+    let mut out = [0u8; BUFFER_BYTES];
+    let mut log = [0u8; BUFFER_BYTES];
+    let first = b"queue\t1\t2\t1\n";
+    let cut = first.len();
+    log[..cut].copy_from_slice(first);
     same_cut(
         &log,
         cut,

@@ -3,19 +3,21 @@ ghost use Rattle.std.specs.Prelude.{◌<◌, ◌≤◌, length};
 
 use crate::{flavors, shows};
 use journal::Replay;
-use libc::{STDIN_FILENO, STDOUT_FILENO};
+use std::env::Env;
+use std::io;
+use std::io::{Read, Stdout};
 use text::Parsed;
 
-pub(crate) fn write(out: &[u8], written: usize) {
+pub(crate) fn write(output: Stdout, out: &[u8], written: usize) {
     if written <= out.len() {
-        io::write_all(STDOUT_FILENO, &out[..written]);
+        say::text(output, &out[..written]);
     }
 }
 
 // The buffer has room for what one line makes, so that every byte is read.
-fn feed(replay: Replay, pool: &mut [u64], part: &[u8], out: &mut [u8]) -> Replay {
+fn feed(output: Stdout, replay: Replay, pool: &mut [u64], part: &[u8], out: &mut [u8]) -> Replay {
     let fed = journal::feed(replay, pool, part, out);
-    write(out, fed.written);
+    write(output, out, fed.written);
     fed.replay
 }
 
@@ -33,38 +35,43 @@ fn part_end(piece: &[u8], from: usize, end: usize) -> usize
     requires { (from < end) × (end ≤ length piece.now) }
     ensures { (from < result) × (result ≤ end) }
 {
-    let at = bytes::scan::find(piece, from, end, 10);
-    if at <= from {
-        return from + 1;
+    match piece[from..end].iter().position(|byte| *byte == b'\n') {
+        None => end,
+        Some(0) => from + 1,
+        Some(at) => from + at,
     }
-    at
 }
 
-// A proved loop has to end, and nothing says that the input does: it counts down from a number that no run uses up.
+// A proved loop has to end, and nothing says that the input does: it takes more turns than any run does.
 // The piece is read anew where all of it was fed.
-pub(crate) fn feed_all(pool: &mut [u64], piece: &mut [u8], out: &mut [u8]) {
+pub(crate) fn feed_all(
+    rt: &impl Env,
+    input: &mut impl Read,
+    output: Stdout,
+    pool: &mut [u64],
+    piece: &mut [u8],
+    out: &mut [u8],
+) -> io::Result<()> {
     let mut replay = journal::new();
     let mut at = 0;
     let mut end = 0;
-    let mut turns = u64::MAX;
-    while turns > 0 {
-        turns -= 1;
+    for _ in 0..u64::MAX {
         if end <= at {
-            let got = libc::read(STDIN_FILENO, piece);
             at = 0;
-            end = io::count(got, piece);
+            end = input.read(piece)?;
             if end == 0 {
-                shows::at_end(replay, pool, out);
-                return;
+                shows::at_end(output, replay, pool, out);
+                return Ok(());
             }
             continue;
         }
         let next = part_end(piece, at, end);
         let number = replay.number;
         let thread = thread_held(replay);
-        replay = feed(replay, pool, &piece[at..next], out);
-        replay = flavors::after_first(replay, number);
-        shows::command(replay, pool, number, thread);
+        replay = feed(output, replay, pool, &piece[at..next], out);
+        replay = flavors::after_first(rt, replay, number);
+        shows::command(output, replay, pool, number, thread);
         at = next;
     }
+    Ok(())
 }

@@ -7,12 +7,22 @@ mod flavors;
 mod shows;
 mod stands;
 
+use std::io;
+
 // The words of the largest pool: 32 blocks of 128.
 const POOL_WORDS: usize = 4096;
 
-fn main() {
+// The most that is read at once.
+const PIECE_BYTES: usize = 65536;
+
+// Room for what one line of the log makes.
+const OUT_BYTES: usize = 4096;
+
+fn main(rt: HostRuntime) -> io::Result<()> {
     let mut pool = [0u64; POOL_WORDS];
-    let mut piece = io::large_buffer();
-    let mut out = io::buffer();
-    feeds::feed_all(&mut pool, &mut piece, &mut out);
+    let mut piece = [0u8; PIECE_BYTES];
+    let mut out = [0u8; OUT_BYTES];
+    let mut input = rt.stdin();
+    let output = rt.stdout();
+    feeds::feed_all(&rt, &mut input, output, &mut pool, &mut piece, &mut out)
 }

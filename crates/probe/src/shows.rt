@@ -6,11 +6,12 @@ use journal::Replay;
 use memory::MaybeBlock;
 use ring::{Flavor, Ring};
 use state::Queue;
+use std::io::Stdout;
 
-fn row(numbers: &[u64], count: u64) {
+fn row(output: Stdout, numbers: &[u64], count: u64) {
     let mut i: usize = 0;
     while i < numbers.len() && (i as u64) < count {
-        say::numbered(b"\t", numbers[i]);
+        say::numbered(output, b"\t", numbers[i]);
         i += 1;
     }
 }
@@ -35,7 +36,7 @@ fn blocks_taken(pool: &[u64], blocks: u64) -> u64 {
 }
 
 // The steps made, the shared words, the blocks taken and the tokens in the ring.
-fn show_words(steps: u64, queue: Queue, pool: &[u64], count: u64) {
+fn show_words(output: Stdout, steps: u64, queue: Queue, pool: &[u64], count: u64) {
     let head = queue.head;
     let tail = queue.tail;
     let taken = blocks_taken(pool, queue.blocks);
@@ -47,13 +48,13 @@ fn show_words(steps: u64, queue: Queue, pool: &[u64], count: u64) {
         queue.tail_block,
         taken,
     ];
-    row(&words, 6);
-    say::numbered_line(b"\t", count);
+    row(output, &words, 6);
+    say::numbered_line(output, b"\t", count);
 }
 
 // Where line `number` was a command, what the thread and the shared words came to. Only a command changes the number of the
 // next line.
-pub(crate) fn command(replay: Replay, pool: &[u64], number: u64, thread: u64) {
+pub(crate) fn command(output: Stdout, replay: Replay, pool: &[u64], number: u64, thread: u64) {
     if number == 1 {
         return;
     }
@@ -62,51 +63,51 @@ pub(crate) fn command(replay: Replay, pool: &[u64], number: u64, thread: u64) {
     }
     let stand = stands::of_thread(replay, thread);
     let queue = replay.queue;
-    say::numbered(b"#\t", number);
-    say::numbered(b"\t", thread);
-    stands::show_line(stand.line);
-    show_words(replay.steps, queue, pool, stand.count);
+    say::numbered(output, b"#\t", number);
+    say::numbered(output, b"\t", thread);
+    stands::show_line(output, stand.line);
+    show_words(output, replay.steps, queue, pool, stand.count);
 }
 
-fn show_next(next: MaybeBlock) {
+fn show_next(output: Stdout, next: MaybeBlock) {
     match next {
-        MaybeBlock::Nothing => say::text(b"\t-"),
-        MaybeBlock::Block(block) => say::numbered(b"\t", block),
+        MaybeBlock::Nothing => say::text(output, b"\t-"),
+        MaybeBlock::Block(block) => say::numbered(output, b"\t", block),
     }
 }
 
-fn states(pool: &[u64], block: u64) {
+fn states(output: Stdout, pool: &[u64], block: u64) {
     let mut slot: u64 = 0;
     while slot < 63 {
-        say::number(memory::state(pool, block, slot));
+        say::number(output, memory::state(pool, block, slot));
         slot += 1;
     }
 }
 
-fn tokens(pool: &[u64], block: u64) {
+fn tokens(output: Stdout, pool: &[u64], block: u64) {
     let mut slot: u64 = 0;
     while slot < 63 {
-        say::numbered(b"\t", memory::token(pool, block, slot));
+        say::numbered(output, b"\t", memory::token(pool, block, slot));
         slot += 1;
     }
 }
 
-fn show_block(pool: &[u64], block: u64) {
+fn show_block(output: Stdout, pool: &[u64], block: u64) {
     if memory::is_free(pool, block) {
         return;
     }
-    say::numbered(b"#block\t", block);
-    show_next(memory::next(pool, block));
-    say::text(b"\t");
-    states(pool, block);
-    tokens(pool, block);
-    say::text(b"\n");
+    say::numbered(output, b"#block\t", block);
+    show_next(output, memory::next(pool, block));
+    say::text(output, b"\t");
+    states(output, pool, block);
+    tokens(output, pool, block);
+    say::text(output, b"\n");
 }
 
-fn show_blocks(pool: &[u64], blocks: u64) {
+fn show_blocks(output: Stdout, pool: &[u64], blocks: u64) {
     let mut block: u64 = 0;
     while block < blocks {
-        show_block(pool, block);
+        show_block(output, pool, block);
         block += 1;
     }
 }
@@ -121,26 +122,26 @@ fn ring_of(replay: Replay, number: u64) -> Ring {
 }
 
 // The tokens from front to back.
-fn show_ring(number: u64, ring: Ring) {
+fn show_ring(output: Stdout, number: u64, ring: Ring) {
     let tokens = ring.tokens;
-    say::numbered(b"#ring\t", number);
-    row(&tokens, ring.count);
-    say::text(b"\n");
+    say::numbered(output, b"#ring\t", number);
+    row(output, &tokens, ring.count);
+    say::text(output, b"\n");
 }
 
-fn show_rings(replay: Replay, count: u64) {
+fn show_rings(output: Stdout, replay: Replay, count: u64) {
     let mut number: u64 = 0;
     while number < count {
-        show_ring(number, ring_of(replay, number));
+        show_ring(output, number, ring_of(replay, number));
         number += 1;
     }
 }
 
 // The last lines of the replay, the blocks that are taken, and the rings. A queue that was not set up has neither.
-pub(crate) fn at_end(replay: Replay, pool: &[u64], out: &mut [u8]) {
+pub(crate) fn at_end(output: Stdout, replay: Replay, pool: &[u64], out: &mut [u8]) {
     let queue = replay.queue;
     let written = journal::finish(replay, out);
-    feeds::write(out, written);
-    show_blocks(pool, queue.blocks);
-    show_rings(replay, queue.threads);
+    feeds::write(output, out, written);
+    show_blocks(output, pool, queue.blocks);
+    show_rings(output, replay, queue.threads);
 }

@@ -4,6 +4,7 @@ ghost use Rattle.std.specs.Prelude.{◌<◌};
 
 use journal::Replay;
 use state::{Call, EmptyLine, LengthLine, PushLine, StealLine, Thread};
+use std::io::Stdout;
 
 // No call is open: `-`.
 const NO_LINE: u64 = 4500;
@@ -100,11 +101,11 @@ pub(crate) fn of_thread(replay: Replay, number: u64) -> Stand {
 }
 
 // A letter and a number, as P4, or `-`.
-pub(crate) fn show_line(line: u64) {
+pub(crate) fn show_line(output: Stdout, line: u64) {
     let letter = (line / 100 % 256) as u8;
-    say::text(&[9, letter]);
+    say::text(output, &[9, letter]);
     if line == NO_LINE {
         return;
     }
-    say::number(line % 100);
+    say::number(output, line % 100);
 }

@@ -3,15 +3,20 @@
 
 ghost use Rattle.std.specs.Prelude.{◌<◌};
 
-use libc::{STDIN_FILENO, STDOUT_FILENO};
+use std::io;
+use std::io::{Read, Write};
 
 // The words of the largest pool: 32 blocks of 128.
 const POOL_WORDS: usize = 4096;
 
-fn write(out: &[u8], written: usize) {
+// The most that is read at once, and the most that is written at once.
+const PIECE_BYTES: usize = 65536;
+
+fn write(output: &mut impl Write, out: &[u8], written: usize) -> io::Result<()> {
     if written <= out.len() {
-        io::write_all(STDOUT_FILENO, &out[..written]);
+        output.write_all(&out[..written])?;
     }
+    Ok(())
 }
 
 // Where to feed from next.
@@ -24,37 +29,42 @@ fn behind(at: usize, read: usize, end: usize) -> usize
     at + read
 }
 
-// A proved loop has to end, and nothing says that the input does: it counts down from a number that no run uses up.
+// A proved loop has to end, and nothing says that the input does: it takes more turns than any run does.
 // The piece is read anew where all of it was fed. One feed leaves bytes unread where the buffer ran out of room: they are
 // fed again, into the buffer written out.
-fn replay_all(pool: &mut [u64], piece: &mut [u8], out: &mut [u8]) {
+fn replay_all(
+    input: &mut impl Read,
+    output: &mut impl Write,
+    pool: &mut [u64],
+    piece: &mut [u8],
+    out: &mut [u8],
+) -> io::Result<()> {
     let mut replay = journal::new();
     let mut at = 0;
     let mut end = 0;
-    let mut turns = u64::MAX;
-    while turns > 0 {
-        turns -= 1;
+    for _ in 0..u64::MAX {
         if end <= at {
-            let got = libc::read(STDIN_FILENO, piece);
             at = 0;
-            end = io::count(got, piece);
+            end = input.read(piece)?;
             if end == 0 {
                 let written = journal::finish(replay, out);
-                write(out, written);
-                return;
+                return write(output, out, written);
             }
             continue;
         }
         let fed = journal::feed(replay, pool, &piece[at..end], out);
-        write(out, fed.written);
+        write(output, out, fed.written)?;
         at = behind(at, fed.read, end);
         replay = fed.replay;
     }
+    Ok(())
 }
 
-fn main() {
+fn main(rt: HostRuntime) -> io::Result<()> {
     let mut pool = [0u64; POOL_WORDS];
-    let mut piece = io::large_buffer();
-    let mut out = io::large_buffer();
-    replay_all(&mut pool, &mut piece, &mut out);
+    let mut piece = [0u8; PIECE_BYTES];
+    let mut out = [0u8; PIECE_BYTES];
+    let mut input = rt.stdin();
+    let mut output = rt.stdout();
+    replay_all(&mut input, &mut output, &mut pool, &mut piece, &mut out)
 }
