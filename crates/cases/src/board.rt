@@ -15,7 +15,7 @@ pub(crate) struct Lent {
     pub(crate) table: [Thread; 8],
 }
 
-// The owner of a table lends the first `records` of it. A walk proves it, and its contract is plain, so that no caller needs one.
+// The owner of a table lends the first `records` of it.
 pub(crate) fn lend(
     q: Queue,
     records: usize,
