@@ -1,4 +1,4 @@
--- The front of a row of records is taken off and put back; what a row of 8 records and the answer with it are as plain data.
+-- The front of a row of records is taken off and put back by hand; what a row of 8 records and the answer with it are as plain data.
 use mathlib.Core.Path.{◌≡◌, refl, subst}
 use mathlib.Core.List.{List, [], ◌∷◌, ◌++◌, map}
 use Prim.Native.Nat.{ℕ, zero, suc, ◌+◌}

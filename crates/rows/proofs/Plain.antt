@@ -1,4 +1,4 @@
--- The records that the walks read and pass as plain data (`tables`' `Data`).
+-- The records that a walk by hand over the table would read and pass, as plain data (`tables`' `Data`).
 use Rattle.tables.proofs.Walk.{Data, struct_data}
 use Rattle.state.specs.contracts.Queue as Queue
 use Rattle.state.proofs.Queue.TheLaws as Queue'

@@ -1,4 +1,4 @@
--- The records that the walks read, write, pass and return as plain data (`tables`' `Data`).
+-- The records that a walk by hand through the table's entry would read, write, pass and return, as plain data (`tables`' `Data`).
 use Rattle.tables.proofs.Walk.{Data, Ok, struct_data, enum_data}
 use Rattle.tables.proofs.Fields.{variant_made}
 use Rattle.state.specs.contracts.Refusal as Refusal
