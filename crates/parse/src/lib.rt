@@ -6,91 +6,91 @@ ghost use Rattle.text.specs.Line.{parsed, with_one, with_two, with_three};
 
 use decimal::read_number;
 use fields::{field_end, is};
-use text::{Command, LINE_CAP, Number, Parsed};
+use text::{Command, LINE_CAP};
 
 mod fields;
 
 #[tactic(auto, using(crate::proofs::Places::stops))]
-pub fn parse(line: &[u8]) -> Parsed
+pub fn parse(line: &[u8]) -> Option<Command>
     ensures { result ≡ parsed line.now }
 {
     let n = line.len();
     if LINE_CAP < n {
-        return Parsed::Bad;
+        return None;
     }
     let w = field_end(line);
     if w == n {
-        return Parsed::Bad;
+        return None;
     }
     let word = &line[..w];
-    let Number::Value(a, x) = read_number(line, w + 1) else {
-        return Parsed::Bad;
+    let Some((a, x)) = read_number(line, w + 1) else {
+        return None;
     };
     if x == n {
         return with_one(word, a);
     }
-    let Number::Value(b, y) = read_number(line, x + 1) else {
-        return Parsed::Bad;
+    let Some((b, y)) = read_number(line, x + 1) else {
+        return None;
     };
     if y == n {
         return with_two(word, a, b);
     }
-    let Number::Value(c, z) = read_number(line, y + 1) else {
-        return Parsed::Bad;
+    let Some((c, z)) = read_number(line, y + 1) else {
+        return None;
     };
     if z == n {
         return with_three(word, a, b, c);
     }
-    Parsed::Bad
+    None
 }
 
 #[tactic(auto, unfolding(text::specs::Line::with_one))]
-fn with_one(word: &[u8], a: u64) -> Parsed
+fn with_one(word: &[u8], a: u64) -> Option<Command>
     ensures { result ≡ with_one word.now a }
 {
     if is(word, b"step") {
-        return Parsed::Good(Command::Step(a));
+        return Some(Command::Step(a));
     }
     if is(word, b"steal") {
-        return Parsed::Good(Command::Steal(a));
+        return Some(Command::Steal(a));
     }
     if is(word, b"pop") {
-        return Parsed::Good(Command::Pop(a));
+        return Some(Command::Pop(a));
     }
     if is(word, b"len") {
-        return Parsed::Good(Command::Len(a));
+        return Some(Command::Len(a));
     }
     if is(word, b"empty") {
-        return Parsed::Good(Command::Empty(a));
+        return Some(Command::Empty(a));
     }
-    Parsed::Bad
+    None
 }
 
 #[tactic(auto, unfolding(text::specs::Line::with_two))]
-fn with_two(word: &[u8], a: u64, b: u64) -> Parsed
+fn with_two(word: &[u8], a: u64, b: u64) -> Option<Command>
     ensures { result ≡ with_two word.now a b }
 {
     if is(word, b"push") {
-        return Parsed::Good(Command::Push(a, b));
+        return Some(Command::Push(a, b));
     }
     if is(word, b"run") {
-        return Parsed::Good(Command::Run(a, b));
+        return Some(Command::Run(a, b));
     }
     if is(word, b"batch") {
-        return Parsed::Good(Command::Batch(a, b));
+        return Some(Command::Batch(a, b));
     }
     if is(word, b"take") {
-        return Parsed::Good(Command::Take(a, b));
+        return Some(Command::Take(a, b));
     }
-    Parsed::Bad
+    None
 }
 
 #[tactic(auto, unfolding(text::specs::Line::with_three))]
-fn with_three(word: &[u8], a: u64, b: u64, c: u64) -> Parsed
+fn with_three(word: &[u8], a: u64, b: u64, c: u64) -> Option<Command>
     ensures { result ≡ with_three word.now a b c }
 {
     if is(word, b"queue") {
-        return Parsed::Good(Command::Queue(a, b, c));
+        return Some(Command::Queue(a, b, c));
     }
-    Parsed::Bad
+    None
 }

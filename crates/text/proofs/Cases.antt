@@ -8,40 +8,39 @@ use native.Mathlib.Omega.{arith}
 use lib.ListN.{length, take, drop}
 use lib.Dec.{eqb}
 use borrow.Author.Tests.{le-leb, lt-leb, eqb-true, eqb-false}
+use Rattle.std.specs.Prelude.{Option, Some, None}
+use Rattle.std.proofs.lemmas.Option.{some_pair_parts}
 use Rattle.text.specs.Number.{Num, value, none, number}
 use Rattle.text.specs.Line.{fields, first, behind, placed, number_at, command, parsed, with_one, with_two, with_three}
-use Rattle.text.specs.declared.Parsed.{Parsed}
-use Rattle.text.specs.declared.Parsed.TheVariants.{Bad}
-use Rattle.text.specs.declared.Number.{Number}
-use Rattle.text.specs.declared.Number.TheVariants.{Value}
+use Rattle.text.specs.declared.Command.{Command}
 use Rattle.text.proofs.Parting.{first_le, first-take, fields-last, fields-next, behind_le, fields-last-at, fields-next-at}
 
 -- ---- a number, and its place
 
-placed-value : (m : Num) (p v x : ℕ) → placed p m ≡ Value v x → (m ≡ value v) × (p ≡ x)
-placed-value (value u) p v x e = (cc, cc)
+placed-value : (m : Num) (p v x : ℕ) → placed p m ≡ Some (v, x) → (m ≡ value v) × (p ≡ x)
+placed-value (value u) p v x e = let q = some_pair_parts u v p x e in (ap value q.0, q.1)
 placed-value none p v x e = (cc, cc)
 
-placed-bad : (m : Num) (p : ℕ) → placed p m ≡ Number.Bad → m ≡ none
+placed-bad : (m : Num) (p : ℕ) → placed p m ≡ None → m ≡ none
 placed-bad (value u) p e = cc
 placed-bad none p e = refl
 
 -- ---- a field that is no number, whatever follows it
 
-bad-first : (w a : List ℕ) (more : List (List ℕ)) → number a ≡ none → command (w ∷ a ∷ more) ≡ Bad
+bad-first : (w a : List ℕ) (more : List (List ℕ)) → number a ≡ none → command (w ∷ a ∷ more) ≡ None
 bad-first w a [] e = rw e
 bad-first w a (b ∷ []) e = rw e
 bad-first w a (b ∷ c ∷ []) e = rw e
 bad-first w a (b ∷ c ∷ d ∷ more) e = refl
 
 bad_second : (w a b : List ℕ) (u : ℕ) → number a ≡ value u → (more : List (List ℕ)) → number b ≡ none
-    → command (w ∷ a ∷ b ∷ more) ≡ Bad
+    → command (w ∷ a ∷ b ∷ more) ≡ None
 bad_second w a b u p [] e = rw (p, e)
 bad_second w a b u p (c ∷ []) e = rw (p, e)
 bad_second w a b u p (c ∷ d ∷ more) e = refl
 
 bad_third : (w a b c : List ℕ) (u v : ℕ) → number a ≡ value u → number b ≡ value v → (more : List (List ℕ)) → number c ≡ none
-    → command (w ∷ a ∷ b ∷ c ∷ more) ≡ Bad
+    → command (w ∷ a ∷ b ∷ c ∷ more) ≡ None
 bad_third w a b c u v p q [] e = rw (p, q, e)
 bad_third w a b c u v p q (d ∷ more) e = refl
 
@@ -55,19 +54,19 @@ later l = go (eqb (length (first l)) (length l)) refl
     go false e = (fields (drop (suc (length (first l))) l), fields-next l (eqb-false (length (first l)) (length l) e))
 
 -- the line is what K makes of the fields from place p on
-record At (l : List ℕ) (p : ℕ) (K : List (List ℕ) → Parsed) : Type 0 where
+record At (l : List ℕ) (p : ℕ) (K : List (List ℕ) → Option Command) : Type 0 where
   inside : p ≤ length l
   rest : parsed l ≡ K (fields (drop p l))
 
-module _ {l : List ℕ} {p : ℕ} {K : List (List ℕ) → Parsed} (at : At l p K) where
-  no_number : number_at l p ≡ Number.Bad
-      → ((more : List (List ℕ)) → number (first (drop p l)) ≡ none → K (first (drop p l) ∷ more) ≡ Bad)
-      → Bad ≡ parsed l
+module _ {l : List ℕ} {p : ℕ} {K : List (List ℕ) → Option Command} (at : At l p K) where
+  no_number : number_at l p ≡ None
+      → ((more : List (List ℕ)) → number (first (drop p l)) ≡ none → K (first (drop p l) ∷ more) ≡ None)
+      → None ≡ parsed l
   no_number e bad =
       let f = later (drop p l) in
       sym (at.rest ∙ ap K f.1 ∙ bad f.0 (placed-bad (number (first (drop p l))) (behind l p) e))
 
-  module _ {v x : ℕ} (found : number_at l p ≡ Value v x) where
+  module _ {v x : ℕ} (found : number_at l p ≡ Some (v, x)) where
     num : number (first (drop p l)) ≡ value v
     num = (placed-value (number (first (drop p l))) (behind l p) v x found).0
 
@@ -93,11 +92,11 @@ whole : (l : List ℕ) → length l ≤ 80 → parsed l ≡ command (fields l)
 unfolding parsed
 whole l fits = rw (le-leb (length l) 80 fits)
 
-pub too_long : (l : List ℕ) → 80 < length l → Bad ≡ parsed l
+pub too_long : (l : List ℕ) → 80 < length l → None ≡ parsed l
 unfolding parsed
 too_long l h = rw (lt-leb (length l) 80 h)
 
-pub word-only : (l : List ℕ) → length l ≤ 80 → length (first l) ≡ length l → Bad ≡ parsed l
+pub word-only : (l : List ℕ) → length l ≤ 80 → length (first l) ≡ length l → None ≡ parsed l
 word-only l fits e = sym (whole l fits ∙ ap command (fields-last l e))
 
 -- the word ends at w, and more follows
@@ -109,19 +108,19 @@ pub record Word (l : List ℕ) (w : ℕ) : Type 0 where
 -- a number follows, up to place x
 pub record One (l : List ℕ) (w a x : ℕ) : Type 0 where
   pub word : Word l w
-  pub found : number_at l (w + 1) ≡ Value a x
+  pub found : number_at l (w + 1) ≡ Some (a, x)
 
 -- and another, up to place y
 pub record Two (l : List ℕ) (w a x b y : ℕ) : Type 0 where
   pub one : One l w a x
   pub more : x ≡ length l → ⊥
-  pub found : number_at l (x + 1) ≡ Value b y
+  pub found : number_at l (x + 1) ≡ Some (b, y)
 
 -- and a third, up to place z
 pub record Three (l : List ℕ) (w a x b y c z : ℕ) : Type 0 where
   pub two : Two l w a x b y
   pub more : y ≡ length l → ⊥
-  pub found : number_at l (y + 1) ≡ Value c z
+  pub found : number_at l (y + 1) ≡ Some (c, z)
 
 module _ {l : List ℕ} {w : ℕ} (k : Word l w) where
   at_one : At l (w + 1) (λ fs. command (first l ∷ fs))
@@ -137,7 +136,7 @@ module _ {l : List ℕ} {w : ℕ} (k : Word l w) where
   cut : take w l ≡ first l
   cut = rw k.ends (first-take l)
 
-  pub no-first : number_at l (w + 1) ≡ Number.Bad → Bad ≡ parsed l
+  pub no-first : number_at l (w + 1) ≡ None → None ≡ parsed l
   no-first e = no_number at_one e (bad-first (first l) (first (drop (w + 1) l)))
 
 module _ {l : List ℕ} {w a x : ℕ} (k : One l w a x) where
@@ -153,7 +152,7 @@ module _ {l : List ℕ} {w a x : ℕ} (k : One l w a x) where
   at-two : (x ≡ length l → ⊥) → At l (x + 1) (λ fs. command (first l ∷ first (drop (w + 1) l) ∷ fs))
   at-two more = next (at_one k.word) k.found more
 
-  pub no_second : (x ≡ length l → ⊥) → number_at l (x + 1) ≡ Number.Bad → Bad ≡ parsed l
+  pub no_second : (x ≡ length l → ⊥) → number_at l (x + 1) ≡ None → None ≡ parsed l
   no_second more e =
       no_number (at-two more) e
       (bad_second (first l) (first (drop (w + 1) l)) (first (drop (x + 1) l)) a num_one)
@@ -175,7 +174,7 @@ module _ {l : List ℕ} {w a x b y : ℕ} (k : Two l w a x b y) where
       → At l (y + 1) (λ fs. command (first l ∷ first (drop (w + 1) l) ∷ first (drop (x + 1) l) ∷ fs))
   at-three more = next at_second k.found more
 
-  pub no_third : (y ≡ length l → ⊥) → number_at l (y + 1) ≡ Number.Bad → Bad ≡ parsed l
+  pub no_third : (y ≡ length l → ⊥) → number_at l (y + 1) ≡ None → None ≡ parsed l
   no_third more e =
       no_number (at-three more) e
       (bad_third
@@ -196,7 +195,7 @@ module _ {l : List ℕ} {w a x b y c z : ℕ} (k : Three l w a x b y c z) where
   three_numbers e =
       sym (last at_third k.found e ∙ rw (num_one k.two.one, num_two k.two, num at_third k.found, ← cut k.two.one.word))
 
-  pub too_many : (z ≡ length l → ⊥) → Bad ≡ parsed l
+  pub too_many : (z ≡ length l → ⊥) → None ≡ parsed l
   too_many e =
       let f = later (drop (z + 1) l) in
       sym ((next at_third k.found e).rest ∙ rw f.1)

@@ -6,12 +6,12 @@ use mathlib.Core.List.{List, [], ◌∷◌, ◌++◌, append_assoc}
 use lib.ListN.{length}
 use lib.Dec.{leb, eqb}
 use borrow.Author.Tests.{eqb-true}
+use Rattle.std.specs.Prelude.{Option, Some, None}
 use Rattle.text.specs.Ascii.{ascii}
 use Rattle.text.specs.Number.{Num, value, none, number, digits}
 use Rattle.text.specs.Line.{fields, prepend, same, with_one, with_two, with_three, one, two, three, command, parsed}
 use Rattle.text.specs.Print.{word_bytes, queue_bytes}
 use Rattle.text.specs.declared.Command.{Command}
-use Rattle.text.specs.declared.Parsed.{Parsed}
 use Rattle.text.proofs.Parting.{same_eq}
 use Rattle.text.proofs.Digits.{spelt-once}
 
@@ -52,14 +52,14 @@ tabbed-fields (c ∷ cs) = go (eqb c 9) refl (some-field cs) (tabbed-fields cs)
 -- ---- which fields make a queue line
 
 -- the queue line's fields, if p is a queue line
-Spelt : List (List ℕ) → Parsed → Type 0
-Spelt fs p = (a b c : ℕ) → p ≡ Parsed.Good (Command.Queue a b c) → fs ≡ ascii "queue" ∷ digits a ∷ digits b ∷ digits c ∷ []
+Spelt : List (List ℕ) → Option Command → Type 0
+Spelt fs p = (a b c : ℕ) → p ≡ Some (Command.Queue a b c) → fs ≡ ascii "queue" ∷ digits a ∷ digits b ∷ digits c ∷ []
 
-by_test : (fs : List (List ℕ)) (b : Bool) (p q : Parsed) → Spelt fs p → Spelt fs q → Spelt fs (cond b p q)
+by_test : (fs : List (List ℕ)) (b : Bool) (p q : Option Command) → Spelt fs p → Spelt fs q → Spelt fs (cond b p q)
 by_test fs true p q s t = s
 by_test fs false p q s t = t
 
-spelt-bad : (fs : List (List ℕ)) → Spelt fs Parsed.Bad
+spelt-bad : (fs : List (List ℕ)) → Spelt fs None
 unfolding Spelt
 spelt-bad fs a b c e = cc
 
@@ -85,7 +85,7 @@ spelt-two fs w (value u) (value v) =
 
 spelt-queue : (w x y z : List ℕ) (u v t : ℕ) → number x ≡ value u → number y ≡ value v → number z ≡ value t
     → (q : Bool) → same w (ascii "queue") ≡ q
-    → Spelt (w ∷ x ∷ y ∷ z ∷ []) (cond q (Parsed.Good (Command.Queue u v t)) Parsed.Bad)
+    → Spelt (w ∷ x ∷ y ∷ z ∷ []) (cond q (Some (Command.Queue u v t)) None)
 unfolding Spelt
 spelt-queue w x y z u v t ex ey ez true s a b c e =
     let first : x ≡ digits u = spelt-once x u ex in
@@ -113,9 +113,9 @@ spelt-command (w ∷ x ∷ y ∷ z ∷ d ∷ more) = spelt-bad (w ∷ x ∷ y �
 
 -- ---- the law
 
-pub queue-echo : (l : List ℕ) (a b c : ℕ) → parsed l ≡ Parsed.Good (Command.Queue a b c) → l ≡ queue_bytes a b c
+pub queue-echo : (l : List ℕ) (a b c : ℕ) → parsed l ≡ Some (Command.Queue a b c) → l ≡ queue_bytes a b c
 unfolding parsed Spelt queue_bytes word_bytes
 queue-echo l a b c e = sym (tabbed-fields l) ∙ ap tabbed (spelt a b c e) ∙ simp append_assoc
   where
     spelt : Spelt (fields l) (parsed l)
-    spelt = by_test (fields l) (leb (length l) 80) (command (fields l)) Parsed.Bad (spelt-command (fields l)) (spelt-bad (fields l))
+    spelt = by_test (fields l) (leb (length l) 80) (command (fields l)) None (spelt-command (fields l)) (spelt-bad (fields l))

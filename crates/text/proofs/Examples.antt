@@ -1,126 +1,126 @@
 -- The text's definitions at work: document 01's example, and each way in which a line can be malformed. Each is computed.
 use mathlib.Core.Path.{◌≡◌, refl}
+use Rattle.std.specs.Prelude.{Some, None}
 use Rattle.text.specs.Ascii.{ascii}
 use Rattle.text.specs.Number.{worth, number, digits_in, digits}
 use Rattle.text.specs.Line.{fields, same, with_one, with_two, with_three, parsed}
 use Rattle.text.specs.Print.{word_bytes, line_bytes, line_number_bytes, bad_bytes, refused_bytes, end_bytes, queue_bytes}
 use Rattle.text.specs.declared.Command.{Command}
-use Rattle.text.specs.declared.Parsed.TheVariants.{Good, Bad}
 use Rattle.text.specs.declared.Word.{Word}
 
 -- ---- well-formed
 
-queue : parsed (ascii "queue\t1\t2\t1") ≡ Good (Command.Queue 1 2 1)
+queue : parsed (ascii "queue\t1\t2\t1") ≡ Some (Command.Queue 1 2 1)
 unfolding parsed fields same with_one with_two with_three number worth
 queue = refl
 
-push : parsed (ascii "push\t0\t17") ≡ Good (Command.Push 0 17)
+push : parsed (ascii "push\t0\t17") ≡ Some (Command.Push 0 17)
 unfolding parsed fields same with_one with_two with_three number worth
 push = refl
 
-run : parsed (ascii "run\t0\t100") ≡ Good (Command.Run 0 100)
+run : parsed (ascii "run\t0\t100") ≡ Some (Command.Run 0 100)
 unfolding parsed fields same with_one with_two with_three number worth
 run = refl
 
-steal : parsed (ascii "steal\t0") ≡ Good (Command.Steal 0)
+steal : parsed (ascii "steal\t0") ≡ Some (Command.Steal 0)
 unfolding parsed fields same with_one with_two with_three number worth
 steal = refl
 
-batch : parsed (ascii "batch\t7\t63") ≡ Good (Command.Batch 7 63)
+batch : parsed (ascii "batch\t7\t63") ≡ Some (Command.Batch 7 63)
 unfolding parsed fields same with_one with_two with_three number worth
 batch = refl
 
-take : parsed (ascii "take\t7\t64") ≡ Good (Command.Take 7 64)
+take : parsed (ascii "take\t7\t64") ≡ Some (Command.Take 7 64)
 unfolding parsed fields same with_one with_two with_three number worth
 take = refl
 
-len : parsed (ascii "len\t1") ≡ Good (Command.Len 1)
+len : parsed (ascii "len\t1") ≡ Some (Command.Len 1)
 unfolding parsed fields same with_one with_two with_three number worth
 len = refl
 
-empty : parsed (ascii "empty\t2") ≡ Good (Command.Empty 2)
+empty : parsed (ascii "empty\t2") ≡ Some (Command.Empty 2)
 unfolding parsed fields same with_one with_two with_three number worth
 empty = refl
 
-pop : parsed (ascii "pop\t3") ≡ Good (Command.Pop 3)
+pop : parsed (ascii "pop\t3") ≡ Some (Command.Pop 3)
 unfolding parsed fields same with_one with_two with_three number worth
 pop = refl
 
-step : parsed (ascii "step\t18446744073709551615") ≡ Good (Command.Step 18_446_744_073_709_551_615)
+step : parsed (ascii "step\t18446744073709551615") ≡ Some (Command.Step 18_446_744_073_709_551_615)
 unfolding parsed fields same with_one with_two with_three number worth
 step = refl
 
 -- ---- malformed
 
-needless_zero : parsed (ascii "step\t01") ≡ Bad
+needless_zero : parsed (ascii "step\t01") ≡ None
 unfolding parsed fields same with_one with_two with_three number worth
 needless_zero = refl
 
-two-zeros : parsed (ascii "step\t00") ≡ Bad
+two-zeros : parsed (ascii "step\t00") ≡ None
 unfolding parsed fields same with_one with_two with_three number worth
 two-zeros = refl
 
-plus : parsed (ascii "step\t+1") ≡ Bad
+plus : parsed (ascii "step\t+1") ≡ None
 unfolding parsed fields same with_one with_two with_three number worth
 plus = refl
 
-past : parsed (ascii "step\t18446744073709551616") ≡ Bad
+past : parsed (ascii "step\t18446744073709551616") ≡ None
 unfolding parsed fields same with_one with_two with_three number worth
 past = refl
 
-long_past : parsed (ascii "step\t99999999999999999999") ≡ Bad
+long_past : parsed (ascii "step\t99999999999999999999") ≡ None
 unfolding parsed fields same with_one with_two with_three number worth
 long_past = refl
 
-doubled_tab : parsed (ascii "step\t\t1") ≡ Bad
+doubled_tab : parsed (ascii "step\t\t1") ≡ None
 unfolding parsed fields same with_one with_two with_three number worth
 doubled_tab = refl
 
-leading_tab : parsed (ascii "\tstep\t1") ≡ Bad
+leading_tab : parsed (ascii "\tstep\t1") ≡ None
 unfolding parsed fields same with_one with_two with_three number worth
 leading_tab = refl
 
-trailing_tab : parsed (ascii "step\t1\t") ≡ Bad
+trailing_tab : parsed (ascii "step\t1\t") ≡ None
 unfolding parsed fields same with_one with_two with_three number worth
 trailing_tab = refl
 
-blank : parsed (ascii "step 1") ≡ Bad
+blank : parsed (ascii "step 1") ≡ None
 unfolding parsed fields same with_one with_two with_three number worth
 blank = refl
 
-carriage_return : parsed (ascii "step\t1\r") ≡ Bad
+carriage_return : parsed (ascii "step\t1\r") ≡ None
 unfolding parsed fields same with_one with_two with_three number worth
 carriage_return = refl
 
-upper_case : parsed (ascii "Step\t1") ≡ Bad
+upper_case : parsed (ascii "Step\t1") ≡ None
 unfolding parsed fields same with_one with_two with_three number worth
 upper_case = refl
 
-missing : parsed (ascii "push\t1") ≡ Bad
+missing : parsed (ascii "push\t1") ≡ None
 unfolding parsed fields same with_one with_two with_three number worth
 missing = refl
 
-extra : parsed (ascii "step\t1\t1") ≡ Bad
+extra : parsed (ascii "step\t1\t1") ≡ None
 unfolding parsed fields same with_one with_two with_three number worth
 extra = refl
 
-extra-queue : parsed (ascii "queue\t1\t2\t1\t1") ≡ Bad
+extra-queue : parsed (ascii "queue\t1\t2\t1\t1") ≡ None
 unfolding parsed fields same with_one with_two with_three number worth
 extra-queue = refl
 
-unknown : parsed (ascii "stop\t1") ≡ Bad
+unknown : parsed (ascii "stop\t1") ≡ None
 unfolding parsed fields same with_one with_two with_three number worth
 unknown = refl
 
-nothing : parsed (ascii "") ≡ Bad
+nothing : parsed (ascii "") ≡ None
 unfolding parsed fields same with_one with_two with_three number worth
 nothing = refl
 
-word-alone : parsed (ascii "step") ≡ Bad
+word-alone : parsed (ascii "step") ≡ None
 unfolding parsed fields same with_one with_two with_three number worth
 word-alone = refl
 
-prefix : parsed (ascii "ste\t1") ≡ Bad
+prefix : parsed (ascii "ste\t1") ≡ None
 unfolding parsed fields same with_one with_two with_three number worth
 prefix = refl
 

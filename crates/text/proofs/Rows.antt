@@ -7,9 +7,9 @@ use native.Mathlib.Nat.{add-zero}
 use native.Mathlib.Omega.{arith}
 use lib.ListN.{length, get_or, drop}
 use borrow.Author.Tests.{le-leb, lt-leb, ne_eqb}
+use Rattle.std.specs.Prelude.{Some, None}
 use Rattle.text.specs.Number.{none, is_digit, worth, bounded, number}
 use Rattle.text.specs.Line.{first, behind, row_at, number_at}
-use Rattle.text.specs.declared.Number.TheVariants.{Value, Bad}
 use Rattle.text.proofs.Parting.{first-end, first_tab, first_more}
 
 module _ (v c : ℕ) (cs : List ℕ) where
@@ -45,27 +45,27 @@ pub reading-none : (l : List ℕ) (at : ℕ) → Reading l at at 0
 reading-none l at = record { small = omega arith; place = refl; row = refl }
 
 module _ {l : List ℕ} {at i v : ℕ} (r : Reading l at i v) where
-  pub reading-end : length l ≤ i → Value v i ≡ row_at l at
+  pub reading-end : length l ≤ i → Some (v, i) ≡ row_at l at
   unfolding worth
   reading-end h =
       let none : first (drop i l) ≡ [] = first-end l i h in
       rw (r.place, r.row, none, add-zero, le-leb v 18_446_744_073_709_551_615 (omega (arith, r.small)))
 
-  pub reading_tab : i < length l → get_or l i 0 ≡ 9 → Value v i ≡ row_at l at
+  pub reading_tab : i < length l → get_or l i 0 ≡ 9 → Some (v, i) ≡ row_at l at
   unfolding worth
   reading_tab h e =
       let none : first (drop i l) ≡ [] = first_tab l i h e in
       rw (r.place, r.row, none, add-zero, le-leb v 18_446_744_073_709_551_615 (omega (arith, r.small)))
 
   module _ (inside : i < length l) (other : get_or l i 0 ≡ 9 → ⊥) where
-    pub reading-low : get_or l i 0 < 48 → Bad ≡ row_at l at
+    pub reading-low : get_or l i 0 < 48 → None ≡ row_at l at
     reading-low h = rw (r.row, first_more l i inside other, worth-low v (get_or l i 0) (first (drop (i + 1) l)) h)
 
-    pub reading-high : 57 < get_or l i 0 → Bad ≡ row_at l at
+    pub reading-high : 57 < get_or l i 0 → None ≡ row_at l at
     reading-high h = rw (r.row, first_more l i inside other, worth-high v (get_or l i 0) (first (drop (i + 1) l)) h)
 
     module _ (low : 48 ≤ get_or l i 0) (high : get_or l i 0 ≤ 57) where
-      pub reading-past : (18_446_744_073_709_551_615 - (get_or l i 0 - 48)) / 10 < v → Bad ≡ row_at l at
+      pub reading-past : (18_446_744_073_709_551_615 - (get_or l i 0 - 48)) / 10 < v → None ≡ row_at l at
       reading-past h =
           let over : bounded (worth (v * 10 + (get_or l i 0 - 48)) (first (drop (i + 1) l))) ≡ none = worth-past (v * 10 + (get_or l i 0 - 48)) (first (drop (i + 1) l)) (omega arith) in
           rw (r.row, first_more l i inside other, worth_digit v (get_or l i 0) (first (drop (i + 1) l)) low high, over)
@@ -81,12 +81,12 @@ module _ {l : List ℕ} {at i v : ℕ} (r : Reading l at i v) where
 -- ---- the number that a field is, by its first byte
 
 module _ (l : List ℕ) (at : ℕ) where
-  pub number-end : length l ≤ at → Bad ≡ number_at l at
+  pub number-end : length l ≤ at → None ≡ number_at l at
   unfolding number
   number-end h = rw (first-end l at h)
 
   module _ (inside : at < length l) where
-    pub number-tab : get_or l at 0 ≡ 9 → Bad ≡ number_at l at
+    pub number-tab : get_or l at 0 ≡ 9 → None ≡ number_at l at
     unfolding number
     number-tab e = rw (first_tab l at inside e)
 
@@ -98,16 +98,16 @@ module _ (l : List ℕ) (at : ℕ) where
       zero-first : first (drop at l) ≡ 48 ∷ first (drop (at + 1) l)
       zero-first = first_more l at inside (omega arith) ∙ ap (λ (c : ℕ). c ∷ first (drop (at + 1) l)) zero
 
-      pub zero_more : at + 1 < length l → (get_or l (at + 1) 0 ≡ 9 → ⊥) → Bad ≡ number_at l at
+      pub zero_more : at + 1 < length l → (get_or l (at + 1) 0 ≡ 9 → ⊥) → None ≡ number_at l at
       unfolding number
       zero_more h e = rw (zero-first, first_more l (at + 1) h e)
 
-      zero-alone : first (drop (at + 1) l) ≡ [] → Value 0 (at + 1) ≡ number_at l at
+      zero-alone : first (drop (at + 1) l) ≡ [] → Some (0, at + 1) ≡ number_at l at
       unfolding number
       zero-alone e = rw (zero-first, e)
 
-      pub zero-tab : at + 1 < length l → get_or l (at + 1) 0 ≡ 9 → Value 0 (at + 1) ≡ number_at l at
+      pub zero-tab : at + 1 < length l → get_or l (at + 1) 0 ≡ 9 → Some (0, at + 1) ≡ number_at l at
       zero-tab h e = zero-alone (first_tab l (at + 1) h e)
 
-      pub zero-end : length l ≤ at + 1 → Value 0 (at + 1) ≡ number_at l at
+      pub zero-end : length l ≤ at + 1 → Some (0, at + 1) ≡ number_at l at
       zero-end h = zero-alone (first-end l (at + 1) h)

@@ -1,11 +1,9 @@
 -- A line of the replay text, as the bytes before its line feed, and the command that it is.
-use Rattle.std.specs.Prelude.{ℕ, ◌+◌, Bool, true, false, cond, List, [], ◌∷◌, length, drop, leb, eqb}
+use Rattle.std.specs.Prelude.{ℕ, ◌+◌, Bool, true, false, cond, List, [], ◌∷◌, length, drop, leb, eqb, Option, Some, None}
 use Rattle.text.specs.Ascii.{ascii}
 use Rattle.text.specs.Number.{Num, value, none, worth, bounded, number}
+use Rattle.text.specs.declared.Command.{Command}
 use Rattle.text.specs.declared.Command.TheVariants.{Queue, Push, Steal, Batch, Take, Len, Empty, Pop, Step, Run}
-use Rattle.text.specs.declared.Parsed.{Parsed}
-use Rattle.text.specs.declared.Parsed.TheVariants.{Good, Bad}
-use Rattle.text.specs.declared.Number.{Number}
 
 -- ---- fields
 
@@ -33,64 +31,64 @@ same (x ∷ xs) (y ∷ ys) = cond (eqb x y) (same xs ys) false
 
 -- ---- commands: by the word, and by how many numbers follow it
 
-unfoldable pub with_one : List ℕ → ℕ → Parsed
+unfoldable pub with_one : List ℕ → ℕ → Option Command
 with_one w a =
-    cond (same w (ascii "step")) (Good (Step a))
-    (cond (same w (ascii "steal")) (Good (Steal a))
-    (cond (same w (ascii "pop")) (Good (Pop a))
-    (cond (same w (ascii "len")) (Good (Len a))
-    (cond (same w (ascii "empty")) (Good (Empty a)) Bad))))
+    cond (same w (ascii "step")) (Some (Step a))
+    (cond (same w (ascii "steal")) (Some (Steal a))
+    (cond (same w (ascii "pop")) (Some (Pop a))
+    (cond (same w (ascii "len")) (Some (Len a))
+    (cond (same w (ascii "empty")) (Some (Empty a)) None))))
 
-unfoldable pub with_two : List ℕ → ℕ → ℕ → Parsed
+unfoldable pub with_two : List ℕ → ℕ → ℕ → Option Command
 with_two w a b =
-    cond (same w (ascii "push")) (Good (Push a b))
-    (cond (same w (ascii "run")) (Good (Run a b))
-    (cond (same w (ascii "batch")) (Good (Batch a b))
-    (cond (same w (ascii "take")) (Good (Take a b)) Bad)))
+    cond (same w (ascii "push")) (Some (Push a b))
+    (cond (same w (ascii "run")) (Some (Run a b))
+    (cond (same w (ascii "batch")) (Some (Batch a b))
+    (cond (same w (ascii "take")) (Some (Take a b)) None)))
 
-unfoldable pub with_three : List ℕ → ℕ → ℕ → ℕ → Parsed
-with_three w a b c = cond (same w (ascii "queue")) (Good (Queue a b c)) Bad
+unfoldable pub with_three : List ℕ → ℕ → ℕ → ℕ → Option Command
+with_three w a b c = cond (same w (ascii "queue")) (Some (Queue a b c)) None
 
-abbrev pub one : List ℕ → Num → Parsed
+abbrev pub one : List ℕ → Num → Option Command
 one w (value a) = with_one w a
-one w none = Bad
+one w none = None
 
-abbrev pub two : List ℕ → Num → Num → Parsed
+abbrev pub two : List ℕ → Num → Num → Option Command
 two w (value a) (value b) = with_two w a b
-two w (value a) none = Bad
-two w none b = Bad
+two w (value a) none = None
+two w none b = None
 
-abbrev pub three : List ℕ → Num → Num → Num → Parsed
+abbrev pub three : List ℕ → Num → Num → Num → Option Command
 three w (value a) (value b) (value c) = with_three w a b c
-three w (value a) (value b) none = Bad
-three w (value a) none c = Bad
-three w none b c = Bad
+three w (value a) (value b) none = None
+three w (value a) none c = None
+three w none b c = None
 
-abbrev pub command : List (List ℕ) → Parsed
-command [] = Bad
-command (w ∷ []) = Bad
+abbrev pub command : List (List ℕ) → Option Command
+command [] = None
+command (w ∷ []) = None
 command (w ∷ (a ∷ [])) = one w (number a)
 command (w ∷ (a ∷ (b ∷ []))) = two w (number a) (number b)
 command (w ∷ (a ∷ (b ∷ (c ∷ [])))) = three w (number a) (number b) (number c)
-command (w ∷ (a ∷ (b ∷ (c ∷ (d ∷ more))))) = Bad
+command (w ∷ (a ∷ (b ∷ (c ∷ (d ∷ more))))) = None
 
 -- a line is at most 80 bytes long
-unfoldable pub parsed : List ℕ → Parsed
-parsed line = cond (leb (length line) 80) (command (fields line)) Bad
+unfoldable pub parsed : List ℕ → Option Command
+parsed line = cond (leb (length line) 80) (command (fields line)) None
 
 -- ---- a number in its line: with the place behind its field
 
-abbrev pub placed : ℕ → Num → Number
-placed at (value v) = Number.Value v at
-placed at none = Number.Bad
+abbrev pub placed : ℕ → Num → Option (ℕ × ℕ)
+placed at (value v) = Some (v, at)
+placed at none = None
 
 -- where the field ends that starts at a place
 abbrev pub behind : List ℕ → ℕ → ℕ
 behind line at = at + length (first (drop at line))
 
-abbrev pub number_at : List ℕ → ℕ → Number
+abbrev pub number_at : List ℕ → ℕ → Option (ℕ × ℕ)
 number_at line at = placed (behind line at) (number (first (drop at line)))
 
 -- the same of a field that has a digit other than 0 in front
-abbrev pub row_at : List ℕ → ℕ → Number
+abbrev pub row_at : List ℕ → ℕ → Option (ℕ × ℕ)
 row_at line at = placed (behind line at) (bounded (worth 0 (first (drop at line))))

@@ -24,19 +24,6 @@ pub enum Command {
     Run(u64, u64),
 }
 
-#[derive(Clone, Copy)]
-pub enum Parsed {
-    Good(Command),
-    Bad,
-}
-
-// What a field is as a number: its value, and the place right behind the field.
-#[derive(Clone, Copy)]
-pub enum Number {
-    Value(u64, usize),
-    Bad,
-}
-
 // The words of the output.
 #[derive(Clone, Copy)]
 pub enum Word {

@@ -16,13 +16,13 @@ overflow_add-w c = omega (arith, word_le (at_word (goal.at.overflow_add-w c).Els
 pub returns-in_default-read_number-2 : goal.returns-in_default-read_number-2
 returns-in_default-read_number-2 c =
     let w = at_word (goal.at.returns-in_default-read_number-2 c).Else-w-n in
-    let a = one w c.in-Value.ensures in
-    let b = two a c.if-x-n.false c.in-Value-read_number.ensures in
+    let a = one w c.in-Some.ensures in
+    let b = two a c.if-x-n.false c.in-Some-read_number.ensures in
     no_third b c.if-y-n.false (sym c.in_default-read_number-2.ensures)
 
 pub returns : goal.returns
 returns c =
     let w = at_word (goal.at.returns c).Else-w-n in
-    let a = one w c.in-Value.ensures in
-    let b = two a c.if-x-n.false c.in-Value-read_number.ensures in
-    too_many (three b c.if-y-n.false c.in-Value-read_number-2.ensures) c.if-z-n.false
+    let a = one w c.in-Some.ensures in
+    let b = two a c.if-x-n.false c.in-Some-read_number.ensures in
+    too_many (three b c.if-y-n.false c.in-Some-read_number-2.ensures) c.if-z-n.false
