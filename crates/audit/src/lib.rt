@@ -4,44 +4,42 @@
 ghost use Rattle.std.specs.Prelude.{◌≡◌, ◌+◌, ◌<◌, ◌^◌};
 ghost use Rattle.machine.specs.Audit.{chase, audit_entry};
 
-use machine::Audited;
-use memory::MaybeBlock;
 use state::{Queue, Refusal};
 
 // `met` blocks were met, `at` the last of them; the links left fall with each call. What is asked is that the
 // count fits: both together are the pool's blocks.
-fn chase(pool: &[u64], at: u64, tail: u64, met: u64, left: u64) -> Audited
+fn chase(pool: &[u64], at: u64, tail: u64, met: u64, left: u64) -> Result<Option<u64>, Refusal>
     requires { met + left < 2 ^ 64 }
     ensures { result ≡ chase left pool.now at tail met }
 {
     if at == tail {
-        return Audited::Blocks(met);
+        return Ok(Some(met));
     }
     if left == 0 {
-        return Audited::Unreached;
+        return Ok(None);
     }
     let next = memory::next(pool, at);
     match next {
-        MaybeBlock::Nothing => Audited::Unreached,
-        MaybeBlock::Block(block) => chase(pool, block, tail, met + 1, left - 1),
+        None => Ok(None),
+        Some(block) => chase(pool, block, tail, met + 1, left - 1),
     }
 }
 
 // It changes nothing.
 #[tactic(auto, unfolding(machine::specs::Audit::audit_entry))]
-pub fn audit(q: Queue, pool: &[u64]) -> Audited
+pub fn audit(q: Queue, pool: &[u64]) -> Result<Option<u64>, Refusal>
     ensures { result ≡ audit_entry q pool.now }
 {
     let len = pool.len() as u64;
     if !list::setup_good(q, len) {
-        return Audited::Refused(Refusal::BadSetup);
+        return Err(Refusal::BadSetup);
     }
     if !list::shared_good(q) {
-        return Audited::Refused(Refusal::BadState);
+        return Err(Refusal::BadState);
     }
     let blocks = q.blocks;
     if !list::nexts_good(pool, blocks) {
-        return Audited::Refused(Refusal::BadState);
+        return Err(Refusal::BadState);
     }
     chase(pool, q.head_block, q.tail_block, 1, blocks - 1)
 }

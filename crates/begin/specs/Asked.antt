@@ -1,6 +1,6 @@
 -- The tests of a begin in their order: those of an entry that wants no call open, then NO_LIMIT and NO_ROOM. Below it, that
 -- a begin is defined so.
-use Rattle.std.specs.Prelude.{ℕ, ◌≡◌, refl, Bool, true, false, cond, List}
+use Rattle.std.specs.Prelude.{ℕ, ◌≡◌, refl, Bool, true, false, cond, List, Result, Ok, Err}
 use Rattle.std.proofs.Common.{ap, arith}
 use Rattle.state.specs.List.{limit_good, room_good}
 use Rattle.state.specs.declared.Queue.{Queue}
@@ -10,64 +10,62 @@ use Rattle.state.specs.declared.Refusal.{Refusal}
 use Rattle.state.specs.declared.Refusal.TheVariants.{Busy, NoLimit, NoRoom}
 use Rattle.machine.specs.declared.Request.{Request}
 use Rattle.machine.specs.declared.Begun.{Begun}
-use Rattle.machine.specs.declared.Tested.{Tested}
-use Rattle.machine.specs.declared.Tested.TheVariants.{Passes, Refuses}
 use Rattle.machine.specs.Step.{is_idle}
 use Rattle.machine.specs.Entry.{tested, tested_as, not_begun, begun, begin_tested, begin_entry}
 use Rattle.entry.specs.Standing.{or_busy, tested_idle}
 
-abbrev pub or_limit : Kind → ℕ → Tested → Tested
-or_limit k count (Refuses r) = Refuses r
-or_limit k count Passes = cond (limit_good k) (cond (room_good k count) Passes (Refuses NoRoom)) (Refuses NoLimit)
+abbrev pub or_limit : Kind → ℕ → Result Unit Refusal → Result Unit Refusal
+or_limit k count (Err r) = Err r
+or_limit k count (Ok tt) = cond (limit_good k) (cond (room_good k count) (Ok tt) (Err NoRoom)) (Err NoLimit)
 
-unfoldable pub tested_begin : Queue → List ℕ → Thread → ℕ → Request → Tested
+unfoldable pub tested_begin : Queue → List ℕ → Thread → ℕ → Request → Result Unit Refusal
 tested_begin q m t n what = or_limit (tested_as what) t.ring.count (tested_idle q m t n)
 
 -- a begin by its tests: no call open, the limit, the room
 module _ (t : Thread) (what : Request) where
-  abbrev asked : Bool → Bool → Bool → Tested
-  asked idle limit room = cond idle (cond limit (cond room Passes (Refuses NoRoom)) (Refuses NoLimit)) (Refuses Busy)
+  abbrev asked : Bool → Bool → Bool → Result Unit Refusal
+  asked idle limit room = cond idle (cond limit (cond room (Ok tt) (Err NoRoom)) (Err NoLimit)) (Err Busy)
 
   abbrev given : Bool → Bool → Bool → Begun
   given idle limit room = cond idle (cond limit (cond room (begun t what) (not_begun t NoRoom)) (not_begun t NoLimit)) (not_begun t Busy)
 
-  told : {s r : Refusal} → Refuses s ≡ Refuses r → not_begun t s ≡ not_begun t r
+  told : {s r : Refusal} → Err s ≡ Err r → not_begun t s ≡ not_begun t r
   told {s} {r} e = let z : s ≡ r = cc in ap (not_begun t) z
 
-  given-refused : (idle limit room : Bool) (r : Refusal) → asked idle limit room ≡ Refuses r → given idle limit room ≡ not_begun t r
+  given-refused : (idle limit room : Bool) (r : Refusal) → asked idle limit room ≡ Err r → given idle limit room ≡ not_begun t r
   given-refused true true true r e = absurd (let z : ◌≡◌ {A = ℕ} 0 1 = cc in omega arith)
   given-refused true true false r e = told e
   given-refused true false room r e = told e
   given-refused false limit room r e = told e
 
-  given-begun : (idle limit room : Bool) → asked idle limit room ≡ Passes → given idle limit room ≡ begun t what
+  given-begun : (idle limit room : Bool) → asked idle limit room ≡ Ok tt → given idle limit room ≡ begun t what
   given-begun true true true e = refl
   given-begun true true false e = absurd (let z : ◌≡◌ {A = ℕ} 0 1 = cc in omega arith)
   given-begun true false room e = absurd (let z : ◌≡◌ {A = ℕ} 0 1 = cc in omega arith)
   given-begun false limit room e = absurd (let z : ◌≡◌ {A = ℕ} 0 1 = cc in omega arith)
 
   -- the order of the tests is one, however they are grouped
-  grouped : (k : Kind) (count : ℕ) (b : Bool) → or_limit k count (cond b Passes (Refuses Busy)) ≡ asked b (limit_good k) (room_good k count)
+  grouped : (k : Kind) (count : ℕ) (b : Bool) → or_limit k count (cond b (Ok tt) (Err Busy)) ≡ asked b (limit_good k) (room_good k count)
   grouped k count true = refl
   grouped k count false = refl
 
-  by-refused : (x : Tested) (r : Refusal) → or_limit (tested_as what) t.ring.count (or_busy t x) ≡ Refuses r → begin_tested t what x ≡ not_begun t r
-  by-refused (Refuses s) r e = told e
-  by-refused Passes r e =
+  by-refused : (x : Result Unit Refusal) (r : Refusal) → or_limit (tested_as what) t.ring.count (or_busy t x) ≡ Err r → begin_tested t what x ≡ not_begun t r
+  by-refused (Err s) r e = told e
+  by-refused (Ok tt) r e =
       given-refused (is_idle t.call) (limit_good (tested_as what)) (room_good (tested_as what) t.ring.count) r
       (rw grouped at e)
 
-  by-passed : (x : Tested) → or_limit (tested_as what) t.ring.count (or_busy t x) ≡ Passes → begin_tested t what x ≡ begun t what
-  by-passed (Refuses s) e = absurd (let z : ◌≡◌ {A = ℕ} 0 1 = cc in omega arith)
-  by-passed Passes e =
+  by-passed : (x : Result Unit Refusal) → or_limit (tested_as what) t.ring.count (or_busy t x) ≡ Ok tt → begin_tested t what x ≡ begun t what
+  by-passed (Err s) e = absurd (let z : ◌≡◌ {A = ℕ} 0 1 = cc in omega arith)
+  by-passed (Ok tt) e =
       given-begun (is_idle t.call) (limit_good (tested_as what)) (room_good (tested_as what) t.ring.count)
       (rw grouped at e)
 
 module _ (q : Queue) (m : List ℕ) (t : Thread) (n : ℕ) (what : Request) where
-  pub begin_refused : {r : Refusal} → tested_begin q m t n what ≡ Refuses r → begin_entry q m t n what ≡ not_begun t r
+  pub begin_refused : {r : Refusal} → tested_begin q m t n what ≡ Err r → begin_entry q m t n what ≡ not_begun t r
   unfolding tested_begin tested_idle begin_entry
   begin_refused {r} e = by-refused t what (tested q m t n) r e
 
-  pub begin_begun : tested_begin q m t n what ≡ Passes → begin_entry q m t n what ≡ begun t what
+  pub begin_begun : tested_begin q m t n what ≡ Ok tt → begin_entry q m t n what ≡ begun t what
   unfolding tested_begin tested_idle begin_entry
   begin_begun e = by-passed t what (tested q m t n) e

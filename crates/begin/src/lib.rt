@@ -7,7 +7,7 @@ ghost use Rattle.begin.specs.Asked.{tested_begin};
 
 use calling::{begun, not_begun};
 use entry::test_idle;
-use machine::{Begun, Request, Tested};
+use machine::{Begun, Request};
 use state::{Kind, Queue, Refusal, Thread};
 
 fn tested_as(what: Request) -> Kind
@@ -25,22 +25,22 @@ fn tested_as(what: Request) -> Kind
 
 // Every refusal of a begin, in order.
 #[tactic(auto, unfolding(crate::specs::Asked::tested_begin))]
-fn test_begin(q: Queue, pool: &[u64], thread: Thread, number: u64, what: Request) -> Tested
+fn test_begin(q: Queue, pool: &[u64], thread: Thread, number: u64, what: Request) -> Result<(), Refusal>
     ensures { result ≡ tested_begin q pool.now thread number what }
 {
     let tested = test_idle(q, pool, thread, number);
-    if let Tested::Refuses(refusal) = tested {
-        return Tested::Refuses(refusal);
+    if let Err(refusal) = tested {
+        return Err(refusal);
     }
     let kind = tested_as(what);
     if !list::limit_good(kind) {
-        return Tested::Refuses(Refusal::NoLimit);
+        return Err(Refusal::NoLimit);
     }
     let ring = thread.ring;
     if !list::room_good(kind, ring.count) {
-        return Tested::Refuses(Refusal::NoRoom);
+        return Err(Refusal::NoRoom);
     }
-    Tested::Passes
+    Ok(())
 }
 
 // Opens a call at its first line; it makes no step.
@@ -48,7 +48,7 @@ pub fn begin(q: Queue, pool: &[u64], thread: Thread, number: u64, what: Request)
     ensures { result ≡ begin_entry q pool.now thread number what }
 {
     let tested = test_begin(q, pool, thread, number, what);
-    if let Tested::Refuses(refusal) = tested {
+    if let Err(refusal) = tested {
         return not_begun(thread, refusal);
     }
     begun(thread, what)

@@ -4,15 +4,14 @@
 ghost use Rattle.std.specs.Prelude.{◌≡◌};
 ghost use Rattle.machine.specs.Entry.{opened, not_begun, begun};
 
-use machine::{Began, Begun, Request};
-use memory::MaybeBlock;
+use machine::{Begun, Request};
 use state::{Call, EmptyLine, Kind, LengthLine, PushLine, Refusal, StealLine, Thread};
 
 fn open(what: Request) -> Call
     ensures { result ≡ opened what }
 {
     match what {
-        Request::Push(token) => return Call::Push(PushLine::P1(token, MaybeBlock::Nothing)),
+        Request::Push(token) => return Call::Push(PushLine::P1(token, None)),
         Request::Steal => return Call::Steal(StealLine::S1(Kind::Steal)),
         Request::Batch(limit) => return Call::Steal(StealLine::S1(Kind::Batch(limit))),
         Request::Take(limit) => return Call::Steal(StealLine::S1(Kind::Take(limit))),
@@ -26,7 +25,7 @@ pub fn not_begun(thread: Thread, refusal: Refusal) -> Begun
 {
     Begun {
         thread,
-        answer: Began::Refused(refusal),
+        answer: Err(refusal),
     }
 }
 
@@ -38,6 +37,6 @@ pub fn begun(thread: Thread, what: Request) -> Begun
     let call = open(what);
     Begun {
         thread: Thread { ring, call, taken },
-        answer: Began::Open,
+        answer: Ok(()),
     }
 }

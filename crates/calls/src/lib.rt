@@ -5,7 +5,6 @@ ghost use Rattle.std.specs.Prelude.{◌≡◌, ◌&&◌, ◌+◌, min, leb, ltb}
 ghost use Rattle.state.specs.List.{block_good, held_good, loaded_good, slot_good, holds_at_last, push_good, limit_good, room_good, within_limit, claim_good, in_claim, open_good, claim_open, steal_good, length_good, empty_good};
 
 use index::Index;
-use memory::MaybeBlock;
 use state::{Claim, EmptyLine, Kind, LengthLine, PushLine, Queue, StealLine};
 
 pub fn limit_good(kind: Kind) -> bool
@@ -49,12 +48,12 @@ fn block_good(q: Queue, block: u64) -> bool
     block < q.blocks
 }
 
-fn held_good(q: Queue, held: MaybeBlock) -> bool
+fn held_good(q: Queue, held: Option<u64>) -> bool
     ensures { result ≡ held_good q held }
 {
     match held {
-        MaybeBlock::Nothing => true,
-        MaybeBlock::Block(block) => block_good(q, block),
+        None => true,
+        Some(block) => block_good(q, block),
     }
 }
 
@@ -77,17 +76,17 @@ fn place_good(q: Queue, i: Index, block: u64) -> bool
     slot_good(q, i) && block_good(q, block)
 }
 
-fn holds_at_last(t: Index, held: MaybeBlock) -> bool
+fn holds_at_last(t: Index, held: Option<u64>) -> bool
     ensures { result ≡ holds_at_last t held }
 {
     match held {
-        MaybeBlock::Nothing => t.offset() != 62,
-        MaybeBlock::Block(_) => true,
+        None => t.offset() != 62,
+        Some(_) => true,
     }
 }
 
 // P4, P8 and P9: a block may be held.
-fn may_hold(q: Queue, t: Index, block: u64, held: MaybeBlock) -> bool
+fn may_hold(q: Queue, t: Index, block: u64, held: Option<u64>) -> bool
     ensures { result ≡ (slot_good q t && block_good q block && held_good q held) }
 {
     place_good(q, t, block) && held_good(q, held)

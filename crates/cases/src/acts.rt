@@ -1,8 +1,7 @@
 // What a line about the shared words and the pool asks of the entries, and what is said of their answers.
 use crate::reads::Case;
 use crate::{board, stands};
-use injector::{Audited, Ready};
-use state::{Queue, Thread};
+use state::{Queue, Refusal, Thread};
 use std::io::Stdout;
 
 pub(crate) fn act(out: Stdout, case: Case, words: Case, pool: &mut [u64]) -> Case {
@@ -38,18 +37,18 @@ fn set_up(out: Stdout, case: Case, words: Case, pool: &mut [u64]) -> Case {
     now
 }
 
-fn say_ready(out: Stdout, ready: Ready) {
+fn say_ready(out: Stdout, ready: Result<(), Refusal>) {
     match ready {
-        Ready::Ready => say::text(out, b" -> ready"),
-        Ready::Refused(refusal) => say::refused(out, refusal),
+        Ok(()) => say::text(out, b" -> ready"),
+        Err(refusal) => say::refused(out, refusal),
     }
 }
 
 fn audits(out: Stdout, words: Case, pool: &[u64]) {
     match injector::audit(board::queue(words), pool) {
-        Audited::Blocks(n) => say::numbered(out, b" -> blocks ", n),
-        Audited::Unreached => say::text(out, b" -> tail not reached"),
-        Audited::Refused(refusal) => say::refused(out, refusal),
+        Ok(Some(n)) => say::numbered(out, b" -> blocks ", n),
+        Ok(None) => say::text(out, b" -> tail not reached"),
+        Err(refusal) => say::refused(out, refusal),
     }
 }
 

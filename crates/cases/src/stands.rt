@@ -6,15 +6,14 @@
 //   E line: head index
 use crate::reads::{Case, NONE};
 use index::Index;
-use memory::MaybeBlock;
 use ring::Flavor;
 use state::{Call, Claim, EmptyLine, Kind, LengthLine, PushLine, StealLine, Thread, Won};
 
-fn maybe(block: u64) -> MaybeBlock {
+fn maybe(block: u64) -> Option<u64> {
     if block == NONE {
-        return MaybeBlock::Nothing;
+        return None;
     }
-    MaybeBlock::Block(block)
+    Some(block)
 }
 
 fn kind(limit: u64) -> Kind {

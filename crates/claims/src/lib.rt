@@ -9,7 +9,8 @@ ghost use Rattle.machine.specs.Steal as spec;
 use batch::{batch_advance, to_block_end};
 use index::{BLOCK_CAP, Index};
 use machine::ends;
-use machine::steals::{first, past, to};
+use machine::steals::{first, past};
+use machine::to;
 use span::same_position;
 use state::{Answer, Claim, Kind, Made, Queue, StealLine};
 

@@ -6,8 +6,7 @@ ghost use Rattle.state.specs.List.{push_good};
 ghost use Rattle.machine.specs.Push as spec;
 
 use index::Index;
-use machine::pushes::to;
-use memory::MaybeBlock;
+use machine::to;
 use state::{Made, PushLine, Queue};
 
 pub fn p5(q: Queue, token: u64, t: Index, b: u64, next: u64) -> Made
@@ -39,5 +38,5 @@ pub fn p7(q: Queue, pool: &mut [u64], token: u64, t: Index, b: u64, next: u64) -
     ensures pool_after { pool.new ≡ after pool.old (spec.p7 q token t b next).touch }
 {
     memory::set_next(pool, b, next);
-    to(q, PushLine::P8(token, t, b, MaybeBlock::Nothing))
+    to(q, PushLine::P8(token, t, b, None))
 }

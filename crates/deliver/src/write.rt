@@ -5,11 +5,11 @@ ghost use Rattle.machine.specs.Push as spec;
 
 use index::Index;
 use machine::ends;
-use machine::pushes::to;
-use memory::{Mark, MaybeBlock};
+use machine::to;
+use memory::Mark;
 use state::{Answer, Made, PushLine, Queue, Refusal};
 
-pub fn p8(q: Queue, pool: &mut [u64], token: u64, t: Index, b: u64, held: MaybeBlock) -> Made
+pub fn p8(q: Queue, pool: &mut [u64], token: u64, t: Index, b: u64, held: Option<u64>) -> Made
     ensures value { result ≡ (spec.p8 q token t b held).made }
     ensures pool_after { pool.new ≡ after pool.old (spec.p8 q token t b held).touch }
 {
@@ -18,14 +18,14 @@ pub fn p8(q: Queue, pool: &mut [u64], token: u64, t: Index, b: u64, held: MaybeB
 }
 
 #[tactic(auto, unfolding(machine::specs::Push::p9))]
-pub fn p9(q: Queue, pool: &mut [u64], token: u64, t: Index, b: u64, held: MaybeBlock) -> Made
+pub fn p9(q: Queue, pool: &mut [u64], token: u64, t: Index, b: u64, held: Option<u64>) -> Made
     ensures value { result ≡ (spec.p9 q pool.old token t b held).made }
     ensures pool_after { pool.new ≡ after pool.old (spec.p9 q pool.old token t b held).touch }
 {
     marks::fetch_or(pool, b, t.offset(), Mark::Write);
     match held {
-        MaybeBlock::Nothing => return ends(q, Answer::Pushed),
-        MaybeBlock::Block(x) => return to(q, PushLine::P10(x, false)),
+        None => return ends(q, Answer::Pushed),
+        Some(x) => return to(q, PushLine::P10(x, false)),
     }
 }
 

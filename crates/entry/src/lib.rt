@@ -7,26 +7,25 @@ ghost use Rattle.machine.specs.Entry.{tested};
 ghost use Rattle.machine.specs.Step.{is_idle};
 ghost use Rattle.entry.specs.Standing.{tested_open, tested_idle};
 
-use machine::Tested;
 use state::{Call, Queue, Refusal, Thread};
 
 #[tactic(auto, unfolding(machine::specs::Entry::tested))]
-pub fn test(q: Queue, pool: &[u64], thread: Thread, number: u64) -> Tested
+pub fn test(q: Queue, pool: &[u64], thread: Thread, number: u64) -> Result<(), Refusal>
     ensures { result ≡ tested q pool.now thread number }
 {
     let len = pool.len() as u64;
     let threads = q.threads;
     if !list::setup_good(q, len) {
-        return Tested::Refuses(Refusal::BadSetup);
+        return Err(Refusal::BadSetup);
     }
     let good = list::state_good(q, pool, thread);
     if !good {
-        return Tested::Refuses(Refusal::BadState);
+        return Err(Refusal::BadState);
     }
     if threads <= number {
-        return Tested::Refuses(Refusal::NoThread);
+        return Err(Refusal::NoThread);
     }
-    Tested::Passes
+    Ok(())
 }
 
 fn is_idle(call: Call) -> bool
@@ -42,31 +41,31 @@ fn is_idle(call: Call) -> bool
 }
 
 #[tactic(auto, unfolding(crate::specs::Standing::tested_open))]
-pub fn test_open(q: Queue, pool: &[u64], thread: Thread, number: u64) -> Tested
+pub fn test_open(q: Queue, pool: &[u64], thread: Thread, number: u64) -> Result<(), Refusal>
     ensures { result ≡ tested_open q pool.now thread number }
 {
     let tested = test(q, pool, thread, number);
-    if let Tested::Refuses(refusal) = tested {
-        return Tested::Refuses(refusal);
+    if let Err(refusal) = tested {
+        return Err(refusal);
     }
     let call = thread.call;
     if is_idle(call) {
-        return Tested::Refuses(Refusal::Idle);
+        return Err(Refusal::Idle);
     }
-    Tested::Passes
+    Ok(())
 }
 
 #[tactic(auto, unfolding(crate::specs::Standing::tested_idle))]
-pub fn test_idle(q: Queue, pool: &[u64], thread: Thread, number: u64) -> Tested
+pub fn test_idle(q: Queue, pool: &[u64], thread: Thread, number: u64) -> Result<(), Refusal>
     ensures { result ≡ tested_idle q pool.now thread number }
 {
     let tested = test(q, pool, thread, number);
-    if let Tested::Refuses(refusal) = tested {
-        return Tested::Refuses(refusal);
+    if let Err(refusal) = tested {
+        return Err(refusal);
     }
     let call = thread.call;
     if !is_idle(call) {
-        return Tested::Refuses(Refusal::Busy);
+        return Err(Refusal::Busy);
     }
-    Tested::Passes
+    Ok(())
 }

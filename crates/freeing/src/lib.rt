@@ -7,7 +7,8 @@ ghost use Rattle.state.specs.List.{claim_good, in_claim};
 ghost use Rattle.machine.specs.Steal as spec;
 
 use machine::ends;
-use machine::steals::{first, past, to, walk_below};
+use machine::steals::{first, past, walk_below};
+use machine::to;
 use memory::Mark;
 use state::{Answer, Claim, Made, Queue, StealLine, Won};
 

@@ -1,13 +1,12 @@
 -- A history: a fresh start, then any entries on any threads in any order, with what the observer noted.
-use Rattle.std.specs.Prelude.{ℕ, zero, suc, cond, List, [], ◌∷◌, ◌++◌}
+use Rattle.std.specs.Prelude.{ℕ, zero, suc, cond, List, [], ◌∷◌, ◌++◌, Result, Ok, Err}
+use Rattle.state.specs.declared.Refusal.{Refusal}
 use Rattle.memory.specs.Touch.{after}
 use Rattle.state.specs.List.{state_good}
 use Rattle.state.specs.declared.Queue.{Queue}
 use Rattle.state.specs.declared.Thread.{Thread}
 use Rattle.machine.specs.Step.{step_of, is_idle, is_open}
 use Rattle.machine.specs.Entry.{tested}
-use Rattle.machine.specs.declared.Tested.{Tested}
-use Rattle.machine.specs.declared.Tested.TheVariants.{Passes, Refuses}
 use Rattle.history.specs.Board.{Board, Ask, begins, pops, steps, runs, thread_at, asked}
 use Rattle.history.specs.Log.{Note, notes_of}
 
@@ -23,9 +22,9 @@ run_notes (suc budget) q m n t =
     []
 
 -- a refused entry makes no step, and so no note
-abbrev pub unless_refused : Tested → List Note → List Note
-unless_refused Passes l = l
-unless_refused (Refuses r) l = []
+abbrev pub unless_refused : Result Unit Refusal → List Note → List Note
+unless_refused (Ok tt) l = l
+unless_refused (Err r) l = []
 
 abbrev pub step_notes : Board → ℕ → ℕ → List Note
 step_notes w n budget =

@@ -1,4 +1,5 @@
 -- No state with the invariant is on the BAD_STATE list, item by item.
+use Rattle.std.specs.Prelude.{Option, None, Some}
 use Prim.Native.Nat.{ℕ, zero, suc, ◌+◌, ◌*◌, ◌≤◌, ◌<◌}
 use mathlib.Core.Path.{◌≡◌, refl, ap}
 use mathlib.Core.Bool.{Bool, true, false, ◌&&◌, not}
@@ -9,8 +10,6 @@ use lib.Dec.{ltb, leb}
 use borrow.Author.Tests.{lt-ltb, le-leb, ne_eqb}
 use Rattle.index.specs.Position.{position}
 use Rattle.index.specs.declared.Index.{Index}
-use Rattle.memory.specs.declared.MaybeBlock.{MaybeBlock}
-use Rattle.memory.specs.declared.MaybeBlock.TheVariants.{Nothing, Block}
 use Rattle.state.specs.List.{next_good, nexts_good, shared_good, held_good, loaded_good, slot_good, holds_at_last, push_good, open_good, within_limit, claim_good, in_claim, claim_open, steal_good, length_good, empty_good, call_good, record_good, state_good}
 use Rattle.state.specs.declared.Kind.{Kind}
 use Rattle.state.specs.declared.Claim.{Claim}
@@ -56,18 +55,18 @@ module _ (s : State) (h : Shared s) where
       (le-leb (position (T s)) (L s * 64) h.ceiling))
       (le-leb (position (H s)) (position (T s)) h.order)
 
-  next-good : (b : ℕ) → b < N s → (n : MaybeBlock) → nxt s b ≡ n → next_good (N s) n ≡ true
-  next-good b p Nothing e = refl
-  next-good b p (Block x) e = lt-ltb x (N s) (h.next-number b x p e)
+  next-good : (b : ℕ) → b < N s → (n : Option ℕ) → nxt s b ≡ n → next_good (N s) n ≡ true
+  next-good b p None e = refl
+  next-good b p (Some x) e = lt-ltb x (N s) (h.next-number b x p e)
 
   nexts-good : (n : ℕ) → n ≤ N s → nexts_good s.pool (N s) n ≡ true
   unfolding nexts_good
   nexts-good zero p = refl
   nexts-good (suc n) p = both (next-good n p (nxt s n) refl) (nexts-good n (omega arith))
 
-  held-good : (i : ℕ) (x : MaybeBlock) → HeldOk s i x → held_good s.queue x ≡ true
-  held-good i Nothing p = refl
-  held-good i (Block x) p = lt-ltb x (N s) (held_number s h x i p)
+  held-good : (i : ℕ) (x : Option ℕ) → HeldOk s i x → held_good s.queue x ≡ true
+  held-good i None p = refl
+  held-good i (Some x) p = lt-ltb x (N s) (held_number s h x i p)
 
   block-good : (b l : ℕ) → lap_of (own s b) ≡ some l → ltb b (N s) ≡ true
   block-good b l p = lt-ltb b (N s) (serving-number s h b l p)
@@ -89,9 +88,9 @@ module _ (s : State) (h : Shared s) where
       (slot-good t.raw p.slot))
       (block-good b (lp t.raw) p.serves)
 
-  last-good : (t : Index) (x : MaybeBlock) → (off t.raw ≡ 62 → Has x) → holds_at_last t x ≡ true
-  last-good t Nothing p = ap not (ne_eqb (off t.raw) 62 p)
-  last-good t (Block x) p = refl
+  last-good : (t : Index) (x : Option ℕ) → (off t.raw ≡ 62 → Has x) → holds_at_last t x ≡ true
+  last-good t None p = ap not (ne_eqb (off t.raw) 62 p)
+  last-good t (Some x) p = refl
 
   push-good : (i : ℕ) (line : PushLine) → PushOk s i line → push_good s.queue line ≡ true
   unfolding push_good

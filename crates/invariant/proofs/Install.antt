@@ -1,4 +1,5 @@
 -- P5 and P6: the push that ended a lap installs the block that it holds, first as the tail's block, then by the tail's index.
+use Rattle.std.specs.Prelude.{None, Some}
 use Prim.Native.Nat.{ℕ, ◌+◌, ◌*◌, ◌-◌, ◌≤◌, ◌<◌}
 use mathlib.Core.Path.{◌≡◌, refl, sym, ap, ◌∙◌}
 use mathlib.Core.Bool.{true}
@@ -11,7 +12,6 @@ use Rattle.index.specs.Claim.{advanced}
 use Rattle.index.specs.declared.Index.{Index}
 use Rattle.memory.specs.Layout.{state, has}
 use Rattle.memory.specs.Laws.{has-none}
-use Rattle.memory.specs.declared.MaybeBlock.TheVariants.{Nothing, Block}
 use Rattle.memory.specs.declared.Mark.{Mark}
 use Rattle.memory.specs.declared.Mark.TheVariants.{Write, Read, Destroy}
 use Rattle.state.specs.Move.{with_tail, with_tail_block}
@@ -198,9 +198,9 @@ module _ (s : State) (i v t b x : ℕ) (h : Shared s) (ok : P6Ok s i v t b x) wh
   unmarked : {A : Type 0} (k : Mark) (a o : ℕ) → a ≡ x → o < 63 → has k (state s.pool a o) ≡ true → A
   unmarked k a o e q w = clash (has k (state s.pool a o)) w (ap (has k) (h.held-clean a i o (was-held a e) q) ∙ has-none k)
 
-  unlinked : {A : Type 0} (a y : ℕ) → a ≡ x → nxt s a ≡ Block y → A
+  unlinked : {A : Type 0} (a y : ℕ) → a ≡ x → nxt s a ≡ Some y → A
   unlinked a y e q =
-      let f : Nothing ≡ Block y = sym (h.held_next a i (was-held a e)) ∙ q in
+      let f : None ≡ Some y = sym (h.held_next a i (was-held a e)) ∙ q in
       absurd (let z : ◌≡◌ {A = ℕ} 0 1 = cc in omega arith)
 
   -- what is said by the owners, by the marks of serving blocks and by their links: of x, and of every other block
@@ -214,9 +214,9 @@ module _ (s : State) (i v t b x : ℕ) (h : Shared s) (ok : P6Ok s i v t b x) wh
       owners (λ w. lap_of w ≡ some l → o < 63 → has k (state s.pool a o) ≡ true → Q w) a (λ e p. unmarked k a o e) f
 
   linked : (A : Type 0) (a l y : ℕ)
-      → (lap_of (own s a) ≡ some l → nxt s a ≡ Block y → A)
-      → lap_of (own (installed s t x) a) ≡ some l → nxt s a ≡ Block y → A
-  linked A a l y f = owners (λ w. lap_of w ≡ some l → nxt s a ≡ Block y → A) a (λ e p. unlinked a y e) f
+      → (lap_of (own s a) ≡ some l → nxt s a ≡ Some y → A)
+      → lap_of (own (installed s t x) a) ≡ some l → nxt s a ≡ Some y → A
+  linked A a l y f = owners (λ w. lap_of w ≡ some l → nxt s a ≡ Some y → A) a (λ e p. unlinked a y e) f
 
   now-live : (l : ℕ) → lp (H s) ≤ l → l ≤ lp (T s) + 1 → own (installed s t x) (put s.ghost.chain (lp (T s) + 1) x l) ≡ Open l
   now-live l p q =
@@ -261,7 +261,7 @@ module _ (s : State) (i v t b x : ℕ) (h : Shared s) (ok : P6Ok s i v t b x) wh
         head-number = h.head-number;
         head_at = λ q. h.head_at q ∙ sym (chain-before (lp (H s)) (omega (arith, h.order)));
         next-number = h.next-number;
-        held_next = λ a j. owners (λ w. w ≡ Held j → nxt s a ≡ Nothing) a (λ e. held_open _ j) (h.held_next a j);
+        held_next = λ a j. owners (λ w. w ≡ Held j → nxt s a ≡ None) a (λ e. held_open _ j) (h.held_next a j);
         held-clean = λ a j o. owners (λ w. w ≡ Held j → o < 63 → state s.pool a o ≡ 0) a (λ e f. held_open _ j f) (h.held-clean a j o);
         next-lap = λ a l y. linked (l < lp (advanced t 2)) a l y (λ p q. omega (arith, h.next-lap a l y p q, next-lap-is));
         next-at = λ a l y.

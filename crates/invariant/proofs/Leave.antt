@@ -1,4 +1,5 @@
 -- S7 and S8: the thief that ended a block moves the head to the next one, first the head's block, then the head's index.
+use Rattle.std.specs.Prelude.{None}
 use Prim.Native.Nat.{ℕ, ◌+◌, ◌-◌, ◌%◌, ◌≤◌, ◌<◌}
 use mathlib.Core.Path.{◌≡◌, refl, sym, ap, ◌∙◌}
 use mathlib.Core.Bool.{Bool, true, false}
@@ -11,7 +12,6 @@ use Rattle.index.specs.Position.{position}
 use Rattle.index.specs.Claim.{advanced, left_lap}
 use Rattle.index.specs.Laws.{left-position, left-next}
 use Rattle.memory.specs.Layout.{state}
-use Rattle.memory.specs.declared.MaybeBlock.TheVariants.{Nothing}
 use Rattle.state.specs.Move.{with_head, with_head_block}
 use Rattle.state.specs.declared.Kind.{Kind}
 use Rattle.state.specs.declared.Claim.{Claim}
@@ -281,7 +281,7 @@ module _ (s : State) (i count h b a : ℕ) (k : Kind) (more : Bool) (sh : Shared
         head-number = sh.head-number;
         head_at = λ q. sym ok.block ∙ ap s.ghost.chain (sym new-lap);
         next-number = sh.next-number;
-        held_next = λ c j. owners (λ w. w ≡ Held j → nxt s c ≡ Nothing) c (λ e. unlike (Back _ _ _) (Held j) refl) (λ n. sh.held_next c j);
+        held_next = λ c j. owners (λ w. w ≡ Held j → nxt s c ≡ None) c (λ e. unlike (Back _ _ _) (Held j) refl) (λ n. sh.held_next c j);
         held-clean = λ c j o.
             owners (λ w. w ≡ Held j → o < 63 → state s.pool c o ≡ 0) c (λ e. unlike (Back _ _ _) (Held j) refl) (λ n. sh.held-clean c j o);
         next-lap = λ c l y p. sh.next-lap c l y (served c l p);

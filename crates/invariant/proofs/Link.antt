@@ -1,4 +1,5 @@
 -- P7: the push that ended a lap links the next lap's block to its own.
+use Rattle.std.specs.Prelude.{Option, None, Some}
 use Prim.Native.Nat.{ℕ, ◌+◌, ◌<◌}
 use mathlib.Core.Path.{◌≡◌, refl, sym, ap, ◌∙◌}
 use mathlib.Core.List.{List}
@@ -10,8 +11,6 @@ use Rattle.memory.specs.Layout.{state, has}
 use Rattle.memory.specs.Touch.{links, after}
 use Rattle.memory.specs.Laws.{next-linked, length-after}
 use Rattle.memory.proofs.Apart.{state-links, token-links, next-links, free-links}
-use Rattle.memory.specs.declared.MaybeBlock.{MaybeBlock}
-use Rattle.memory.specs.declared.MaybeBlock.TheVariants.{Nothing, Block}
 use Rattle.memory.specs.declared.Mark.{Mark}
 use Rattle.memory.specs.declared.Mark.TheVariants.{Write, Read, Destroy}
 use Rattle.state.specs.declared.PushLine.TheVariants.{P7}
@@ -27,7 +26,7 @@ use Rattle.invariant.proofs.Facts.{none-some, some_inj, serving-number, room}
 abbrev pub linked_on : State → ℕ → ℕ → State
 linked_on s b x = record { queue = s.queue; pool = after s.pool (links b x); ghost = s.ghost }
 
-block_inj : (a b : ℕ) → Block a ≡ Block b → a ≡ b
+block_inj : (a b : ℕ) → Some a ≡ Some b → a ≡ b
 block_inj a b e = cc
 
 module _ (s : State) (i v t b x : ℕ) (h : Shared s) (ok : P7Ok s i v t b x) where
@@ -38,11 +37,11 @@ module _ (s : State) (i v t b x : ℕ) (h : Shared s) (ok : P7Ok s i v t b x) wh
   same-token : (a o : ℕ) → o < 63 → tok (linked_on s b x) a o ≡ tok s a o
   same-token a o q = token-links s.pool b x a o q
 
-  pub linked : nxt (linked_on s b x) b ≡ Block x
+  pub linked : nxt (linked_on s b x) b ≡ Some x
   linked = next-linked s.pool b x (room s h b (serving-number s h b (lp t) ok.owes.serves))
 
   -- what is said of the links: of b's, and of every other
-  nexts : (P : MaybeBlock → Type 0) (a : ℕ) → (a ≡ b → P (Block x)) → P (nxt s a) → P (nxt (linked_on s b x) a)
+  nexts : (P : Option ℕ → Type 0) (a : ℕ) → (a ≡ b → P (Some x)) → P (nxt s a) → P (nxt (linked_on s b x) a)
   nexts P a p q = at (ℕ_discrete a b)
     where
       at : Dec (a ≡ b) → P (nxt (linked_on s b x) a)
@@ -56,7 +55,7 @@ module _ (s : State) (i v t b x : ℕ) (h : Shared s) (ok : P7Ok s i v t b x) wh
   not-held : {A : Type 0} (a j : ℕ) → a ≡ b → own s a ≡ Held j → A
   not-held a j e q = none-some (lp t) (sym (ap lap_of q) ∙ ap (λ (k : ℕ). lap_of (own s k)) e ∙ ok.owes.serves)
 
-  next-chain : (a l y : ℕ) → a ≡ b → lap_of (own s a) ≡ some l → Block x ≡ Block y → s.ghost.chain (l + 1) ≡ y
+  next-chain : (a l y : ℕ) → a ≡ b → lap_of (own s a) ≡ some l → Some x ≡ Some y → s.ghost.chain (l + 1) ≡ y
   next-chain a l y e p q = ap (λ (k : ℕ). s.ghost.chain (k + 1)) (the_lap a l e p) ∙ ok.chain ∙ block_inj x y q
 
   pub p7-shared : Shared (linked_on s b x)
@@ -80,11 +79,11 @@ module _ (s : State) (i v t b x : ℕ) (h : Shared s) (ok : P7Ok s i v t b x) wh
         tail_at = h.tail_at;
         head-number = h.head-number;
         head_at = h.head_at;
-        next-number = λ a y q. nexts (λ w. w ≡ Block y → y < N s) a (λ e f. omega (arith, block_inj x y f, ok.number)) (h.next-number a y q);
-        held_next = λ a j q. nexts (λ w. w ≡ Nothing) a (λ e. not-held a j e q) (h.held_next a j q);
+        next-number = λ a y q. nexts (λ w. w ≡ Some y → y < N s) a (λ e f. omega (arith, block_inj x y f, ok.number)) (h.next-number a y q);
+        held_next = λ a j q. nexts (λ w. w ≡ None) a (λ e. not-held a j e q) (h.held_next a j q);
         held-clean = λ a j o p q. state-links s.pool b x a o q ∙ h.held-clean a j o p q;
-        next-lap = λ a l y p. nexts (λ w. w ≡ Block y → l < lp (T s)) a (λ e f. omega (arith, the_lap a l e p, ok.lap)) (h.next-lap a l y p);
-        next-at = λ a l y p. nexts (λ w. w ≡ Block y → s.ghost.chain (l + 1) ≡ y) a (λ e. next-chain a l y e p) (h.next-at a l y p);
+        next-lap = λ a l y p. nexts (λ w. w ≡ Some y → l < lp (T s)) a (λ e f. omega (arith, the_lap a l e p, ok.lap)) (h.next-lap a l y p);
+        next-at = λ a l y p. nexts (λ w. w ≡ Some y → s.ghost.chain (l + 1) ≡ y) a (λ e. next-chain a l y e p) (h.next-at a l y p);
         written = λ a l o p q m. h.written a l o p q (was Write a o q ∙ m);
         token = λ a l o p q m. same-token a o q ∙ h.token a l o p q (was Write a o q ∙ m);
         read-written = λ a l o p q m. sym (was Write a o q) ∙ h.read-written a l o p q (was Read a o q ∙ m);

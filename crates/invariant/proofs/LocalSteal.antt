@@ -1,4 +1,5 @@
 -- The lines of a thief that change neither the shared state nor the ghost: S1, S2, S3, S5, S6, S9.
+use Rattle.std.specs.Prelude.{Option, None, Some}
 use Prim.Native.Nat.{ℕ, ◌+◌, ◌%◌, ◌≤◌, ◌<◌}
 use mathlib.Core.Path.{◌≡◌, refl, sym, ap, ◌∙◌}
 use mathlib.Core.Bool.{Bool, true, false, not, ◌&&◌}
@@ -11,8 +12,6 @@ use Rattle.index.specs.Position.{position, has_next}
 use Rattle.index.specs.Length.{to_block_end, batch_advance}
 use Rattle.index.specs.Laws.{Inside, to-end-some, to-end-below, batch-some, batch-below}
 use Rattle.index.specs.declared.Index.{Index}
-use Rattle.memory.specs.declared.MaybeBlock.{MaybeBlock}
-use Rattle.memory.specs.declared.MaybeBlock.TheVariants.{Nothing, Block}
 use Rattle.state.specs.List.{room_good, within_limit}
 use Rattle.state.specs.declared.Kind.{Kind}
 use Rattle.state.specs.declared.Kind.TheVariants.{Batch, Take}
@@ -160,9 +159,9 @@ s3-kept s i count taken k h b sh p =
 
 -- by what the block's next is
 s5-by : (s : State) (i count : ℕ) (taken : List ℕ) (k : Kind) (c : Claim) → Shared s → StealOk s i count taken (S5 k c)
-    → (n : MaybeBlock) → nxt s c.block ≡ n → Kept s i count taken (s5_next s.queue k c n)
-s5-by s i count taken k c h p Nothing e = goes_on s i count taken (Steal (S5 k c)) h p
-s5-by s i count taken k c h p (Block x) e =
+    → (n : Option ℕ) → nxt s c.block ≡ n → Kept s i count taken (s5_next s.queue k c n)
+s5-by s i count taken k c h p None e = goes_on s i count taken (Steal (S5 k c)) h p
+s5-by s i count taken k c h p (Some x) e =
     goes_on s i count taken (Steal (S6 k c x)) h
     (record {
       leaves = p;
@@ -185,9 +184,9 @@ next_open s i k count h b a x sh p =
     ap (λ (y : ℕ). lap_of (own s y)) (sym p.chain) ∙ ap lap_of (sh.live (lp h + 1) (omega arith) (omega arith))
 
 s6-more : (s : State) (i : ℕ) (k : Kind) (count h b a x : ℕ) → Shared s → S6Ok s i k count h b a x
-    → (n : MaybeBlock) → nxt s x ≡ n → some n ≡ true → lp h + 2 ≤ lp (T s)
-s6-more s i k count h b a x sh p Nothing e q = clash false q refl
-s6-more s i k count h b a x sh p (Block y) e q =
+    → (n : Option ℕ) → nxt s x ≡ n → some n ≡ true → lp h + 2 ≤ lp (T s)
+s6-more s i k count h b a x sh p None e q = clash false q refl
+s6-more s i k count h b a x sh p (Some y) e q =
     let l : lp h + 1 < lp (T s) = sh.next-lap x (lp h + 1) y (next_open s i k count h b a x sh p) e in
     omega arith
 
@@ -227,11 +226,11 @@ module _ (s : State) (i count : ℕ) (taken : List ℕ) (k : Kind) (h : Shared s
       (λ e. refl)
       (λ e. refl)
 
-  s5-by-ghost : (c : Claim) (p : StealOk s i count taken (S5 k c)) (n : MaybeBlock) (e : nxt s c.block ≡ n)
+  s5-by-ghost : (c : Claim) (p : StealOk s i count taken (S5 k c)) (n : Option ℕ) (e : nxt s c.block ≡ n)
       → (s5-by s i count taken k c h p n e).ghost ≡ s.ghost
   unfolding s5-by goes_on
-  s5-by-ghost c p Nothing e = refl
-  s5-by-ghost c p (Block x) e = refl
+  s5-by-ghost c p None e = refl
+  s5-by-ghost c p (Some x) e = refl
 
   pub s5-ghost : (c : Claim) (p : StealOk s i count taken (S5 k c)) → (s5-kept s i count taken k c h p).ghost ≡ s.ghost
   unfolding s5 s5-kept

@@ -1,4 +1,5 @@
 -- P3, P10 and S14: a block is taken from the pool, and is given back. Which free block is taken does not matter.
+use Rattle.std.specs.Prelude.{Option, None, Some}
 use Prim.Native.Nat.{ℕ, ◌+◌, ◌≤◌, ◌<◌}
 use mathlib.Core.Path.{◌≡◌, refl, sym, ap, ◌∙◌}
 use mathlib.Core.Bool.{Bool, true, false}
@@ -12,8 +13,6 @@ use Rattle.memory.specs.Touch.{Touch, frees, clears, after}
 use Rattle.memory.specs.Pool.{pick}
 use Rattle.memory.specs.Laws.{Aimed, Of, Alike, length-after, pick-block, free-freed, free-cleared, next-cleared, state-cleared}
 use Rattle.memory.proofs.Apart.{elsewhere, next-frees, state-frees}
-use Rattle.memory.specs.declared.MaybeBlock.{MaybeBlock}
-use Rattle.memory.specs.declared.MaybeBlock.TheVariants.{Nothing, Block}
 use Rattle.memory.specs.declared.Mark.{Mark}
 use Rattle.memory.specs.declared.Mark.TheVariants.{Write, Read, Destroy}
 use Rattle.state.specs.declared.PushLine.TheVariants.{P3, P10}
@@ -59,8 +58,8 @@ pub record Changes (s : State) (x : ℕ) (w : Own) (touch : Touch) : Type 0 wher
   -- the free mark agrees with the new owner, the link is a pool's block, and a held block is clean
   pub freed : w ≡ Free → is_free (after s.pool touch) x ≡ true
   pub taken : is_free (after s.pool touch) x ≡ true → w ≡ Free
-  pub linked : (y : ℕ) → next (after s.pool touch) x ≡ Block y → y < N s
-  pub unlinked : (j : ℕ) → w ≡ Held j → next (after s.pool touch) x ≡ Nothing
+  pub linked : (y : ℕ) → next (after s.pool touch) x ≡ Some y → y < N s
+  pub unlinked : (j : ℕ) → w ≡ Held j → next (after s.pool touch) x ≡ None
   pub clean : (j o : ℕ) → w ≡ Held j → o < 63 → state (after s.pool touch) x o ≡ 0
 
 -- no thread but i leans on the block, and what is written in it stays written
@@ -132,11 +131,11 @@ module _ (s : State) (x : ℕ) (w : Own) (touch : Touch) (h : Shared s) (change 
         head-number = h.head-number;
         head_at = h.head_at;
         next-number = λ c y.
-            by-block (λ c. c < N s → nxt (given-on s x w touch) c ≡ Block y → y < N s) c
+            by-block (λ c. c < N s → nxt (given-on s x w touch) c ≡ Some y → y < N s) c
             (λ q f. change.linked y f)
             (λ n q f. h.next-number c y q (sym (alike c n).nexts ∙ f));
         held_next = λ c j.
-            by-block (λ c. own (given-on s x w touch) c ≡ Held j → nxt (given-on s x w touch) c ≡ Nothing) c
+            by-block (λ c. own (given-on s x w touch) c ≡ Held j → nxt (given-on s x w touch) c ≡ None) c
             (λ f. change.unlinked j (sym (put_same (own s) x w) ∙ f))
             (λ n f. (alike c n).nexts ∙ h.held_next c j (sym (same-owner c n) ∙ f));
         held-clean = λ c j o.
@@ -213,7 +212,7 @@ module _ (s : State) (x : ℕ) (w : Own) (touch : Touch) (h : Shared s) (change 
 
 -- P3
 
-block-nothing : {A : Type 0} (y : ℕ) → Nothing ≡ Block y → A
+block-nothing : {A : Type 0} (y : ℕ) → None ≡ Some y → A
 block-nothing y e = absurd (let z : ◌≡◌ {A = ℕ} 0 1 = cc in omega arith)
 
 module _ (s : State) (i x : ℕ) (h : Shared s) (n : x < N s) (f : free s x ≡ true) where
@@ -245,7 +244,7 @@ module _ (s : State) (i x : ℕ) (h : Shared s) (n : x < N s) (f : free s x ≡ 
         wrote = λ l o p q. none-some l (sym (ap lap_of was_free) ∙ p);
       }
 
-  p3-next : (t b : ℕ) → P3Ok s t b → P4Ok (given-on s x (Held i) (clears x)) i t b (Block x)
+  p3-next : (t b : ℕ) → P3Ok s t b → P4Ok (given-on s x (Held i) (clears x)) i t b (Some x)
   p3-next t b ok =
       record {
         holds = put_same (own s) x (Held i);
@@ -257,9 +256,9 @@ module _ (s : State) (i x : ℕ) (h : Shared s) (n : x < N s) (f : free s x ≡ 
 
 -- by what the pool had
 p3-by : (s : State) (i count : ℕ) (taken : List ℕ) (v : ℕ) (t : Index) (b : ℕ) → Shared s → PushOk s i (P3 v t b)
-    → (r : MaybeBlock) → pick s.pool (N s) ≡ r → Kept s i count taken (p3_took s.queue v t b r)
-p3-by s i count taken v t b h ok Nothing e = stops s i count taken (Refused NoBlock) h
-p3-by s i count taken v t b h ok (Block x) e =
+    → (r : Option ℕ) → pick s.pool (N s) ≡ r → Kept s i count taken (p3_took s.queue v t b r)
+p3-by s i count taken v t b h ok None e = stops s i count taken (Refused NoBlock) h
+p3-by s i count taken v t b h ok (Some x) e =
     let p = pick-block s.pool (N s) x e in
     record {
       ghost = given s.ghost x (Held i);
@@ -348,16 +347,16 @@ s14-kept s i count taken won b h ok =
 
 -- ---- the ghosts that are chosen
 
-abbrev pub took : Ghost → ℕ → MaybeBlock → Ghost
-took g i Nothing = g
-took g i (Block x) = given g x (Held i)
+abbrev pub took : Ghost → ℕ → Option ℕ → Ghost
+took g i None = g
+took g i (Some x) = given g x (Held i)
 
 module _ (s : State) (i count : ℕ) (taken : List ℕ) (h : Shared s) where
-  p3-by-ghost : (v : ℕ) (t : Index) (b : ℕ) (ok : PushOk s i (P3 v t b)) (r : MaybeBlock) (e : pick s.pool (N s) ≡ r)
+  p3-by-ghost : (v : ℕ) (t : Index) (b : ℕ) (ok : PushOk s i (P3 v t b)) (r : Option ℕ) (e : pick s.pool (N s) ≡ r)
       → (p3-by s i count taken v t b h ok r e).ghost ≡ took s.ghost i r
   unfolding p3-by stops
-  p3-by-ghost v t b ok Nothing e = refl
-  p3-by-ghost v t b ok (Block x) e = refl
+  p3-by-ghost v t b ok None e = refl
+  p3-by-ghost v t b ok (Some x) e = refl
 
   pub p3-ghost : (v : ℕ) (t : Index) (b : ℕ) (ok : PushOk s i (P3 v t b))
       → (p3-kept s i count taken v t b h ok).ghost ≡ took s.ghost i (pick s.pool (N s))

@@ -1,4 +1,5 @@
 -- What holds of a thread at its line holds again after a step of another thread: one lemma a bundle, then by the line.
+use Rattle.std.specs.Prelude.{Option, None, Some}
 use Prim.Native.Nat.{ℕ, ◌+◌, ◌*◌, ◌-◌, ◌≤◌, ◌<◌}
 use mathlib.Core.Path.{◌≡◌, sym, ap, subst, ◌∙◌}
 use mathlib.Core.List.{List}
@@ -6,8 +7,6 @@ use native.Mathlib.Omega.{arith}
 use native.Mathlib.Nat.{le_trans, lt_of_lt_of_le}
 use Rattle.index.specs.Position.{position}
 use Rattle.index.proofs.Tickets.{ticket_mono}
-use Rattle.memory.specs.declared.MaybeBlock.{MaybeBlock}
-use Rattle.memory.specs.declared.MaybeBlock.TheVariants.{Nothing, Block}
 use Rattle.state.specs.declared.Kind.{Kind}
 use Rattle.state.specs.declared.Won.{Won}
 use Rattle.state.specs.declared.Won.TheVariants.{Task, Moved}
@@ -57,9 +56,9 @@ module _ (j : ℕ) (s s' : State) (r : Rely j s s') where
   ceiling-stays : (l : ℕ) → l < s.queue.ceiling → l < s'.queue.ceiling
   ceiling-stays l p = subst (λ (n : ℕ). l < n) (sym r.ceiling) p
 
-  held_stays : (x : MaybeBlock) → HeldOk s j x → HeldOk s' j x
-  held_stays Nothing p = tt
-  held_stays (Block x) p = r.held x p
+  held_stays : (x : Option ℕ) → HeldOk s j x → HeldOk s' j x
+  held_stays None p = tt
+  held_stays (Some x) p = r.held x p
 
   -- a loaded index that is the tail's afterwards was the tail's before, since the tail only grows
   at-tail-stays : (t b : ℕ) → off t < 63 → AtTail s t b → AtTail s' t b

@@ -1,4 +1,5 @@
 -- P4: the compare that gives a push its ticket, won and lost.
+use Rattle.std.specs.Prelude.{Option, None, Some}
 use Prim.Native.Nat.{ℕ, ◌+◌, ◌*◌, ◌<◌}
 use mathlib.Core.Path.{◌≡◌, refl, sym, ap, ◌∙◌}
 use mathlib.Core.Bool.{Bool, true, false, cond}
@@ -10,8 +11,6 @@ use lib.Dec.{eqb}
 use borrow.Author.Tests.{eq-eqb, eqb-true}
 use Rattle.index.specs.Claim.{advanced}
 use Rattle.index.specs.declared.Index.{Index}
-use Rattle.memory.specs.declared.MaybeBlock.{MaybeBlock}
-use Rattle.memory.specs.declared.MaybeBlock.TheVariants.{Nothing, Block}
 use Rattle.state.specs.Move.{with_tail}
 use Rattle.state.specs.declared.PushLine.TheVariants.{P2, P4, P8}
 use Rattle.state.specs.declared.Call.TheVariants.{Push}
@@ -144,9 +143,9 @@ module _ (s : State) (i v t : ℕ) (h : Shared s) (e : T s ≡ t) (slot : off t 
 
 -- the line that the push reaches: P5 from the block's last slot, with the block that it holds, else P8
 module _ (s : State) (i v : ℕ) (t : Index) (b : ℕ) (h : Shared s) (e : T s ≡ t.raw) where
-  p4-last : (held : MaybeBlock) → P4Ok s i t.raw b held → off t.raw ≡ 62 → PushOk (pushed-on s i v t.raw) i (p4_last v t b held)
-  p4-last Nothing ok last = absurd (ok.last last)
-  p4-last (Block x) ok last =
+  p4-last : (held : Option ℕ) → P4Ok s i t.raw b held → off t.raw ≡ 62 → PushOk (pushed-on s i v t.raw) i (p4_last v t b held)
+  p4-last None ok last = absurd (ok.last last)
+  p4-last (Some x) ok last =
       record {
         owes = p4-owes s i v t.raw h e ok.slot b ok.at.same;
         last = last;
@@ -155,18 +154,18 @@ module _ (s : State) (i v : ℕ) (t : Index) (b : ℕ) (h : Shared s) (e : T s �
         lap = ok.lap;
       }
 
-  held_on : (held : MaybeBlock) → HeldOk s i held → HeldOk (pushed-on s i v t.raw) i held
-  held_on Nothing q = q
-  held_on (Block x) q = q
+  held_on : (held : Option ℕ) → HeldOk s i held → HeldOk (pushed-on s i v t.raw) i held
+  held_on None q = q
+  held_on (Some x) q = q
 
-  p4-next : (held : MaybeBlock) → P4Ok s i t.raw b held
+  p4-next : (held : Option ℕ) → P4Ok s i t.raw b held
       → PushOk (pushed-on s i v t.raw) i (cond (eqb (off t.raw) 62) (p4_last v t b held) (P8 v t b held))
   p4-next held ok =
       cond_elim (PushOk (pushed-on s i v t.raw) i) (eqb (off t.raw) 62) (p4_last v t b held) (P8 v t b held)
       (λ q. p4-last held ok (eqb-true _ _ q))
       (λ q. record { owes = p4-owes s i v t.raw h e ok.slot b ok.at.same; holds = held_on held ok.holds })
 
-  pub p4-won : (count : ℕ) (taken : List ℕ) (held : MaybeBlock) → P4Ok s i t.raw b held
+  pub p4-won : (count : ℕ) (taken : List ℕ) (held : Option ℕ) → P4Ok s i t.raw b held
       → Kept s i count taken (p4_won s.queue v t b held)
   p4-won count taken held ok =
       record {
@@ -177,30 +176,30 @@ module _ (s : State) (i v : ℕ) (t : Index) (b : ℕ) (h : Shared s) (e : T s �
       }
 
 -- whatever the tail is: a compare that fails leaves all as it was
-pub p4_lost_lem : (s : State) (i count : ℕ) (taken : List ℕ) (v : ℕ) (held : MaybeBlock)
+pub p4_lost_lem : (s : State) (i count : ℕ) (taken : List ℕ) (v : ℕ) (held : Option ℕ)
     → Shared s → HeldOk s i held → Kept s i count taken (p4_lost s.queue v held)
 p4_lost_lem s i count taken v held h q =
     goes_on s i count taken (Push (P2 v s.queue.tail held)) h (record { holds = q; seen = le_refl _ })
 
 -- by the compare's outcome c
-p4-by : (s : State) (i count : ℕ) (taken : List ℕ) (v : ℕ) (t : Index) (b : ℕ) (held : MaybeBlock) → Shared s → PushOk s i (P4 v t b held)
+p4-by : (s : State) (i count : ℕ) (taken : List ℕ) (v : ℕ) (t : Index) (b : ℕ) (held : Option ℕ) → Shared s → PushOk s i (P4 v t b held)
     → (c : Bool) → eqb (T s) t.raw ≡ c → Kept s i count taken (cond c (p4_won s.queue v t b held) (p4_lost s.queue v held))
 p4-by s i count taken v t b held h ok true e = p4-won s i v t b h (eqb-true (T s) t.raw e) count taken held ok
 p4-by s i count taken v t b held h ok false e = p4_lost_lem s i count taken v held h ok.holds
 
-pub p4-kept : (s : State) (i count : ℕ) (taken : List ℕ) (v : ℕ) (t : Index) (b : ℕ) (held : MaybeBlock)
+pub p4-kept : (s : State) (i count : ℕ) (taken : List ℕ) (v : ℕ) (t : Index) (b : ℕ) (held : Option ℕ)
     → Shared s → PushOk s i (P4 v t b held) → Kept s i count taken (p4 s.queue v t b held)
 unfolding p4
 p4-kept s i count taken v t b held h ok = p4-by s i count taken v t b held h ok (eqb (T s) t.raw) refl
 
 -- the ticket is the next one, whatever ghost is chosen
-pub p4-ticket : (s : State) (v : ℕ) (t : Index) (b : ℕ) (held : MaybeBlock) (g : Ghost) → off t.raw < 63 → T s ≡ t.raw
+pub p4-ticket : (s : State) (v : ℕ) (t : Index) (b : ℕ) (held : Option ℕ) (g : Ghost) → off t.raw < 63 → T s ≡ t.raw
     → (tk t.raw ≡ np s) × (np (moved s (p4 s.queue v t b held) g) ≡ np s + 1)
 unfolding p4
 p4-ticket s v t b held g slot e = (ap tk (sym e), rw (eq-eqb (T s) t.raw e) (omega arith))
 
 -- the ghost that is chosen, by the compare's outcome
-module _ (s : State) (i count : ℕ) (taken : List ℕ) (v : ℕ) (t : Index) (b : ℕ) (held : MaybeBlock)
+module _ (s : State) (i count : ℕ) (taken : List ℕ) (v : ℕ) (t : Index) (b : ℕ) (held : Option ℕ)
     (h : Shared s) (ok : PushOk s i (P4 v t b held)) where
   by-ghost : (c : Bool) (q : eqb (T s) t.raw ≡ c)
       → (p4-by s i count taken v t b held h ok c q).ghost ≡ cond c (ticketed s.ghost i v t.raw) s.ghost

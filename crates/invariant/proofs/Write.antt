@@ -1,4 +1,5 @@
 -- P8 and P9: a push writes its token, and marks its slot WRITE.
+use Rattle.std.specs.Prelude.{Option, None, Some}
 use Prim.Native.Nat.{ℕ, ◌+◌, ◌*◌, ◌<◌}
 use mathlib.Core.Path.{◌≡◌, refl, sym, ap, ap₂, subst, ◌∙◌}
 use mathlib.Core.Bool.{true, false}
@@ -11,8 +12,6 @@ use Rattle.memory.specs.Layout.{state, has, or}
 use Rattle.memory.specs.Touch.{writes_token, writes_state, after}
 use Rattle.memory.specs.Laws.{Room, length-after, has-or, has-or-other, token-written, state-written}
 use Rattle.memory.proofs.Apart.{token-writes_token, token-writes_state, state-writes_token, state-writes_state, next-writes_token, next-writes_state, free-writes_token, free-writes_state}
-use Rattle.memory.specs.declared.MaybeBlock.{MaybeBlock}
-use Rattle.memory.specs.declared.MaybeBlock.TheVariants.{Nothing, Block}
 use Rattle.memory.specs.declared.Mark.{Mark}
 use Rattle.memory.specs.declared.Mark.TheVariants.{Write, Read, Destroy}
 use Rattle.state.specs.declared.PushLine.TheVariants.{P8, P9}
@@ -138,11 +137,11 @@ module _ (s : State) (i v t b : ℕ) (h : Shared s) (owes : Owes s i v t b) wher
         unwritten = sym (told-was Write b (off t) owes.slot) ∙ owes.unwritten;
       }
 
-  p8-held : (held : MaybeBlock) → HeldOk s i held → HeldOk (told-on s v t b) i held
-  p8-held Nothing q = q
-  p8-held (Block x) q = q
+  p8-held : (held : Option ℕ) → HeldOk s i held → HeldOk (told-on s v t b) i held
+  p8-held None q = q
+  p8-held (Some x) q = q
 
-  p8-next : (held : MaybeBlock) → HeldOk s i held → P9Ok (told-on s v t b) i v t b held
+  p8-next : (held : Option ℕ) → HeldOk s i held → P9Ok (told-on s v t b) i v t b held
   p8-next held q =
       record {
         owes = p8-owes;
@@ -150,7 +149,7 @@ module _ (s : State) (i v t b : ℕ) (h : Shared s) (owes : Owes s i v t b) wher
         token = token-written s.pool b (off t) v owes.slot (mapped s i v t b h owes);
       }
 
-pub p8-kept : (s : State) (i count : ℕ) (taken : List ℕ) (v : ℕ) (t : Index) (b : ℕ) (held : MaybeBlock)
+pub p8-kept : (s : State) (i count : ℕ) (taken : List ℕ) (v : ℕ) (t : Index) (b : ℕ) (held : Option ℕ)
     → Shared s → PushOk s i (P8 v t b held) → Kept s i count taken (p8 s.queue v t b held)
 p8-kept s i count taken v t b held h ok =
     record {
@@ -294,16 +293,16 @@ module _ (s : State) (i v t b : ℕ) (h : Shared s) (owes : Owes s i v t b) wher
       }
 
 -- the push ends, or gives back the block that it still holds
-p9-by : (s : State) (i count : ℕ) (taken : List ℕ) (v : ℕ) (t : Index) (b : ℕ) (held : MaybeBlock) → Shared s → PushOk s i (P9 v t b held)
+p9-by : (s : State) (i count : ℕ) (taken : List ℕ) (v : ℕ) (t : Index) (b : ℕ) (held : Option ℕ) → Shared s → PushOk s i (P9 v t b held)
     → Kept s i count taken (p9_ends s.queue held (writes_state b (off t.raw) (marked s t.raw b)))
-p9-by s i count taken v t b Nothing h ok =
+p9-by s i count taken v t b None h ok =
     record {
       ghost = s.ghost;
       shared = p9-shared s i v t.raw b h ok.owes ok.token;
       call = tt;
       others = p9_rely s i v t.raw b h ok.owes;
     }
-p9-by s i count taken v t b (Block x) h ok =
+p9-by s i count taken v t b (Some x) h ok =
     record {
       ghost = s.ghost;
       shared = p9-shared s i v t.raw b h ok.owes ok.token;
@@ -311,22 +310,22 @@ p9-by s i count taken v t b (Block x) h ok =
       others = p9_rely s i v t.raw b h ok.owes;
     }
 
-pub p9-kept : (s : State) (i count : ℕ) (taken : List ℕ) (v : ℕ) (t : Index) (b : ℕ) (held : MaybeBlock)
+pub p9-kept : (s : State) (i count : ℕ) (taken : List ℕ) (v : ℕ) (t : Index) (b : ℕ) (held : Option ℕ)
     → Shared s → PushOk s i (P9 v t b held) → Kept s i count taken (p9 s.queue s.pool v t b held)
 unfolding p9
 p9-kept s i count taken v t b held h ok = p9-by s i count taken v t b held h ok
 
 -- the ghost that is chosen is the old one
 module _ (s : State) (i count : ℕ) (taken : List ℕ) (v : ℕ) (t : Index) (b : ℕ) (h : Shared s) where
-  pub p8-ghost : (held : MaybeBlock) (ok : PushOk s i (P8 v t b held)) → (p8-kept s i count taken v t b held h ok).ghost ≡ s.ghost
+  pub p8-ghost : (held : Option ℕ) (ok : PushOk s i (P8 v t b held)) → (p8-kept s i count taken v t b held h ok).ghost ≡ s.ghost
   unfolding p8-kept
   p8-ghost held ok = refl
 
-  p9-by-ghost : (held : MaybeBlock) (ok : PushOk s i (P9 v t b held)) → (p9-by s i count taken v t b held h ok).ghost ≡ s.ghost
+  p9-by-ghost : (held : Option ℕ) (ok : PushOk s i (P9 v t b held)) → (p9-by s i count taken v t b held h ok).ghost ≡ s.ghost
   unfolding p9-by
-  p9-by-ghost Nothing ok = refl
-  p9-by-ghost (Block x) ok = refl
+  p9-by-ghost None ok = refl
+  p9-by-ghost (Some x) ok = refl
 
-  pub p9-ghost : (held : MaybeBlock) (ok : PushOk s i (P9 v t b held)) → (p9-kept s i count taken v t b held h ok).ghost ≡ s.ghost
+  pub p9-ghost : (held : Option ℕ) (ok : PushOk s i (P9 v t b held)) → (p9-kept s i count taken v t b held h ok).ghost ≡ s.ghost
   unfolding p9 p9-kept
   p9-ghost held ok = p9-by-ghost held ok

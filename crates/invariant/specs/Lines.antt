@@ -1,8 +1,6 @@
 -- What holds of a thread at each line of the step table. t and h are raw indices; i is the thread.
-use Rattle.std.specs.Prelude.{ℕ, ◌+◌, ◌-◌, ◌%◌, ◌≤◌, ◌<◌, ◌≡◌, Bool, true, false, List, length, get_or}
+use Rattle.std.specs.Prelude.{ℕ, ◌+◌, ◌-◌, ◌%◌, ◌≤◌, ◌<◌, ◌≡◌, Bool, true, false, List, length, get_or, Option, None, Some}
 use Rattle.index.specs.Position.{position, has_next}
-use Rattle.memory.specs.declared.MaybeBlock.{MaybeBlock}
-use Rattle.memory.specs.declared.MaybeBlock.TheVariants.{Nothing, Block}
 use Rattle.state.specs.List.{open_good, within_limit}
 use Rattle.state.specs.declared.Kind.{Kind}
 use Rattle.state.specs.declared.Won.{Won}
@@ -22,13 +20,13 @@ use Rattle.invariant.specs.Ghost.{Held, Back, some, lap_of, front, resp}
 use Rattle.invariant.specs.State.{State, lp, off, tk, T, H, TB, HB, N, L, np, nc, W, R, D, tok, own}
 
 -- a push holds a block
-abbrev pub HeldOk : State → ℕ → MaybeBlock → Type 0
-HeldOk s i Nothing = Unit
-HeldOk s i (Block x) = own s x ≡ Held i
+abbrev pub HeldOk : State → ℕ → Option ℕ → Type 0
+HeldOk s i None = Unit
+HeldOk s i (Some x) = own s x ≡ Held i
 
-abbrev pub Has : MaybeBlock → Type 0
-Has Nothing = ⊥
-Has (Block x) = Unit
+abbrev pub Has : Option ℕ → Type 0
+Has None = ⊥
+Has (Some x) = Unit
 
 -- a loaded index and block that a compare may still find unchanged
 pub record AtTail (s : State) (t b : ℕ) : Type 0 where
@@ -55,7 +53,7 @@ pub record P3Ok (s : State) (t b : ℕ) : Type 0 where
   pub last : off t ≡ 62
   pub lap : lp t < L s
 
-pub record P4Ok (s : State) (i t b : ℕ) (held : MaybeBlock) : Type 0 where
+pub record P4Ok (s : State) (i t b : ℕ) (held : Option ℕ) : Type 0 where
   pub holds : HeldOk s i held
   pub at : AtTail s t b
   pub slot : off t < 63
@@ -81,16 +79,16 @@ pub record P7Ok (s : State) (i v t b x : ℕ) : Type 0 where
   pub chain : s.ghost.chain (lp t + 1) ≡ x
   pub number : x < N s
 
-pub record P8Ok (s : State) (i v t b : ℕ) (held : MaybeBlock) : Type 0 where
+pub record P8Ok (s : State) (i v t b : ℕ) (held : Option ℕ) : Type 0 where
   pub owes : Owes s i v t b
   pub holds : HeldOk s i held
 
-pub record P9Ok (s : State) (i v t b : ℕ) (held : MaybeBlock) : Type 0 where
+pub record P9Ok (s : State) (i v t b : ℕ) (held : Option ℕ) : Type 0 where
   pub owes : Owes s i v t b
   pub holds : HeldOk s i held
   pub token : tok s b (off t) ≡ v
 
-pub record P2Ok (s : State) (i t : ℕ) (held : MaybeBlock) : Type 0 where
+pub record P2Ok (s : State) (i t : ℕ) (held : Option ℕ) : Type 0 where
   pub holds : HeldOk s i held
   pub seen : t ≤ T s
 

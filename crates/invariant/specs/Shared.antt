@@ -1,7 +1,6 @@
 -- What holds of the shared state and the ghost alone. l is a lap, b a block, o a slot; slot o of lap l has ticket 63 l + o.
-use Rattle.std.specs.Prelude.{ℕ, ◌+◌, ◌*◌, ◌%◌, ◌≤◌, ◌<◌, ◌≡◌, true, length}
+use Rattle.std.specs.Prelude.{ℕ, ◌+◌, ◌*◌, ◌%◌, ◌≤◌, ◌<◌, ◌≡◌, true, length, None, Some}
 use Rattle.index.specs.Position.{position}
-use Rattle.memory.specs.declared.MaybeBlock.TheVariants.{Nothing, Block}
 use Rattle.memory.specs.Layout.{state}
 use Rattle.invariant.specs.Ghost.{Free, Held, Open, Back, some, lap_of, front}
 use Rattle.invariant.specs.State.{State, lp, off, T, H, TB, HB, N, L, np, nc, W, R, D, tok, nxt, free, own}
@@ -31,11 +30,11 @@ pub record Shared (s : State) : Type 0 where
   pub head-number : HB s < N s
   pub head_at : off (H s) < 63 → HB s ≡ s.ghost.chain (lp (H s))
   -- every next is a pool's block; a held block is clean; a link leads to the next lap's block
-  pub next-number : (b x : ℕ) → b < N s → nxt s b ≡ Block x → x < N s
-  pub held_next : (b i : ℕ) → own s b ≡ Held i → nxt s b ≡ Nothing
+  pub next-number : (b x : ℕ) → b < N s → nxt s b ≡ Some x → x < N s
+  pub held_next : (b i : ℕ) → own s b ≡ Held i → nxt s b ≡ None
   pub held-clean : (b i o : ℕ) → own s b ≡ Held i → o < 63 → state s.pool b o ≡ 0
-  pub next-lap : (b l x : ℕ) → lap_of (own s b) ≡ some l → nxt s b ≡ Block x → l < lp (T s)
-  pub next-at : (b l x : ℕ) → lap_of (own s b) ≡ some l → nxt s b ≡ Block x → s.ghost.chain (l + 1) ≡ x
+  pub next-lap : (b l x : ℕ) → lap_of (own s b) ≡ some l → nxt s b ≡ Some x → l < lp (T s)
+  pub next-at : (b l x : ℕ) → lap_of (own s b) ≡ some l → nxt s b ≡ Some x → s.ghost.chain (l + 1) ≡ x
   -- a written slot's ticket was pushed, and its token is the one pushed
   pub written : (b l o : ℕ) → lap_of (own s b) ≡ some l → o < 63 → W s b o ≡ true → 63 * l + o < np s
   pub token : (b l o : ℕ) → lap_of (own s b) ≡ some l → o < 63 → W s b o ≡ true → tok s b o ≡ s.ghost.pushed (63 * l + o)

@@ -1,8 +1,7 @@
 -- The shared state with its ghost, and short names for what the conjuncts speak of.
-use Rattle.std.specs.Prelude.{ℕ, Bool, List}
+use Rattle.std.specs.Prelude.{ℕ, Bool, List, Option}
 use Rattle.index.specs.Position.{position, lap, offset, ticket}
 use Rattle.memory.specs.Layout.{token, state, next, is_free, has}
-use Rattle.memory.specs.declared.MaybeBlock.{MaybeBlock}
 use Rattle.memory.specs.declared.Mark.TheVariants.{Write, Read, Destroy}
 use Rattle.state.specs.declared.Queue.{Queue}
 use Rattle.invariant.specs.Ghost.{Ghost, Own}
@@ -61,7 +60,7 @@ D s b o = has Destroy (state s.pool b o)
 abbrev pub tok : State → ℕ → ℕ → ℕ
 tok s b o = token s.pool b o
 
-abbrev pub nxt : State → ℕ → MaybeBlock
+abbrev pub nxt : State → ℕ → Option ℕ
 nxt s b = next s.pool b
 
 abbrev pub free : State → ℕ → Bool

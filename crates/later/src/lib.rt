@@ -10,7 +10,6 @@ use orders::hear;
 use places::place_of;
 use replayed::{Fed, Replay, Stage};
 use state::{Queue, Thread};
-use text::Parsed;
 use whole::{assembled, gave};
 
 // A byte is read only where all that it may make has room.
@@ -69,7 +68,7 @@ pub fn feed_open(
         }
         let parsed = later_line(&line, held);
         held = 0;
-        let Parsed::Good(command) = parsed else {
+        let Some(command) = parsed else {
             written = say_bad(out, written, number, steps);
             stage = Stage::Over;
             read = piece.len();

@@ -6,8 +6,8 @@ ghost use Rattle.index.specs.Position.{position};
 ghost use Rattle.state.specs.List.{claim_good};
 ghost use Rattle.machine.specs.Steal as spec;
 
-use machine::steals::{first, to};
-use memory::MaybeBlock;
+use machine::steals::first;
+use machine::to;
 use state::{Claim, Kind, Made, Queue, StealLine};
 
 #[tactic(auto, unfolding(machine::specs::Steal::s5))]
@@ -16,8 +16,8 @@ pub fn s5(q: Queue, pool: &[u64], kind: Kind, claim: Claim) -> Made
 {
     let next = memory::next(pool, claim.block);
     match next {
-        MaybeBlock::Nothing => return to(q, StealLine::S5(kind, claim)),
-        MaybeBlock::Block(block) => return to(q, StealLine::S6(kind, claim, block)),
+        None => return to(q, StealLine::S5(kind, claim)),
+        Some(block) => return to(q, StealLine::S6(kind, claim, block)),
     }
 }
 
@@ -26,8 +26,8 @@ pub fn s6(q: Queue, pool: &[u64], kind: Kind, claim: Claim, next: u64) -> Made
 {
     let beyond = memory::next(pool, next);
     match beyond {
-        MaybeBlock::Nothing => return to(q, StealLine::S7(kind, claim, next, false)),
-        MaybeBlock::Block(_) => return to(q, StealLine::S7(kind, claim, next, true)),
+        None => return to(q, StealLine::S7(kind, claim, next, false)),
+        Some(_) => return to(q, StealLine::S7(kind, claim, next, true)),
     }
 }
 

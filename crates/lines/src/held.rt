@@ -1,11 +1,10 @@
 // The line that is being read. It is the replay's own array of 80 bytes: that is what each function asks of its length.
-ghost use Rattle.std.specs.Prelude.{◌≡◌, ◌+◌, min, length, set};
-ghost use Rattle.text.specs.declared.Parsed.TheVariants.{Good};
+ghost use Rattle.std.specs.Prelude.{◌≡◌, ◌+◌, min, length, set, Some};
+
 ghost use Rattle.replayed.specs.Replay.{line_as};
 ghost use Rattle.replayed.specs.Feed.{is_queue, later_of, opening_of};
 
-use replayed::Opening;
-use text::{Command, Parsed};
+use text::Command;
 
 // A byte is held, of a line that is too long no more than that it is. Answers how many are held now.
 pub fn hold(line: &mut [u8], held: u64, byte: u8) -> u64
@@ -22,12 +21,12 @@ pub fn hold(line: &mut [u8], held: u64, byte: u8) -> u64
 }
 
 // The line that was held, without its line feed.
-fn held_line(line: &[u8], held: u64) -> Parsed
+fn held_line(line: &[u8], held: u64) -> Option<Command>
     requires { length line.now ≡ 80 }
     ensures { result ≡ line_as line.now held }
 {
     if 80 < held {
-        return Parsed::Bad;
+        return None;
     }
     let n = held as usize;
     parse::parse(&line[..n])
@@ -51,43 +50,43 @@ fn is_queue(command: Command) -> bool
 }
 
 // A line after line 1: a queue line is malformed there.
-pub fn later_line(line: &[u8], held: u64) -> Parsed
+pub fn later_line(line: &[u8], held: u64) -> Option<Command>
     requires { length line.now ≡ 80 }
     ensures { result ≡ later_of (line_as line.now held) }
 {
-    let Parsed::Good(command) = held_line(line, held) else {
-        return Parsed::Bad;
+    let Some(command) = held_line(line, held) else {
+        return None;
     };
     if is_queue(command) {
-        return Parsed::Bad;
+        return None;
     }
-    Parsed::Good(command)
+    Some(command)
 }
 
-fn opening_of(command: Command) -> Opening
-    ensures { result ≡ opening_of (Good command) }
+fn opening_of(command: Command) -> Option<(u64, u64, u64)>
+    ensures { result ≡ opening_of (Some command) }
 {
     match command {
-        Command::Queue(threads, blocks, ceiling) => Opening::Queue(threads, blocks, ceiling),
-        Command::Push(_, _) => Opening::Bad,
-        Command::Steal(_) => Opening::Bad,
-        Command::Batch(_, _) => Opening::Bad,
-        Command::Take(_, _) => Opening::Bad,
-        Command::Len(_) => Opening::Bad,
-        Command::Empty(_) => Opening::Bad,
-        Command::Pop(_) => Opening::Bad,
-        Command::Step(_) => Opening::Bad,
-        Command::Run(_, _) => Opening::Bad,
+        Command::Queue(threads, blocks, ceiling) => Some((threads, blocks, ceiling)),
+        Command::Push(_, _) => None,
+        Command::Steal(_) => None,
+        Command::Batch(_, _) => None,
+        Command::Take(_, _) => None,
+        Command::Len(_) => None,
+        Command::Empty(_) => None,
+        Command::Pop(_) => None,
+        Command::Step(_) => None,
+        Command::Run(_, _) => None,
     }
 }
 
 // Line 1: anything but a queue line is malformed there.
-pub fn first_line(line: &[u8], held: u64) -> Opening
+pub fn first_line(line: &[u8], held: u64) -> Option<(u64, u64, u64)>
     requires { length line.now ≡ 80 }
     ensures { result ≡ opening_of (line_as line.now held) }
 {
-    let Parsed::Good(command) = held_line(line, held) else {
-        return Opening::Bad;
+    let Some(command) = held_line(line, held) else {
+        return None;
     };
     opening_of(command)
 }

@@ -6,7 +6,6 @@ ghost use Rattle.std.specs.Prelude.{◌≡◌, ◌&&◌, leb};
 ghost use Rattle.state.specs.List.{counts_good, setup_good, next_good, nexts_good, shared_good, call_good, record_good, state_good};
 
 pub use calls::{limit_good, room_good};
-use memory::MaybeBlock;
 use state::{Call, Queue, Thread};
 
 fn within(low: u64, n: u64, high: u64) -> bool
@@ -33,12 +32,12 @@ pub fn setup_good(q: Queue, len: u64) -> bool
     counts_good(threads, blocks, q.ceiling) && len == memory::pool_len(threads, blocks)
 }
 
-fn next_good(blocks: u64, next: MaybeBlock) -> bool
+fn next_good(blocks: u64, next: Option<u64>) -> bool
     ensures { result ≡ next_good blocks next }
 {
     match next {
-        MaybeBlock::Nothing => true,
-        MaybeBlock::Block(block) => block < blocks,
+        None => true,
+        Some(block) => block < blocks,
     }
 }
 

@@ -6,11 +6,10 @@ ghost use Rattle.machine.specs.Push as spec;
 
 use index::{BLOCK_CAP, Index};
 use machine::ends;
-use machine::pushes::to;
-use memory::MaybeBlock;
+use machine::to;
 use state::{Answer, Made, PushLine, Queue, Refusal};
 
-pub fn p1(q: Queue, token: u64, held: MaybeBlock) -> Made
+pub fn p1(q: Queue, token: u64, held: Option<u64>) -> Made
     ensures { result ≡ (spec.p1 q token held).made }
 {
     let t = q.tail;
@@ -18,7 +17,7 @@ pub fn p1(q: Queue, token: u64, held: MaybeBlock) -> Made
 }
 
 #[tactic(auto, unfolding(machine::specs::Push::p2))]
-pub fn p2(q: Queue, token: u64, t: Index, held: MaybeBlock) -> Made
+pub fn p2(q: Queue, token: u64, t: Index, held: Option<u64>) -> Made
     ensures { result ≡ (spec.p2 q token t held).made }
 {
     let b = q.tail_block;
@@ -28,14 +27,14 @@ pub fn p2(q: Queue, token: u64, t: Index, held: MaybeBlock) -> Made
     }
     if q.ceiling <= t.lap() {
         match held {
-            MaybeBlock::Nothing => return ends(q, Answer::Refused(Refusal::Spent)),
-            MaybeBlock::Block(x) => return to(q, PushLine::P10(x, true)),
+            None => return ends(q, Answer::Refused(Refusal::Spent)),
+            Some(x) => return to(q, PushLine::P10(x, true)),
         }
     }
     if offset == BLOCK_CAP - 1 {
         match held {
-            MaybeBlock::Nothing => return to(q, PushLine::P3(token, t, b)),
-            MaybeBlock::Block(_) => return to(q, PushLine::P4(token, t, b, held)),
+            None => return to(q, PushLine::P3(token, t, b)),
+            Some(_) => return to(q, PushLine::P4(token, t, b, held)),
         }
     }
     to(q, PushLine::P4(token, t, b, held))

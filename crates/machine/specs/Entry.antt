@@ -1,10 +1,8 @@
 -- The public entries, with document 01's refusals 1 to 7 in their order. A refused entry changes nothing.
-use Rattle.std.specs.Prelude.{ℕ, cond, List, length, replicate, ltb}
+use Rattle.std.specs.Prelude.{ℕ, cond, List, length, replicate, ltb, None, Result, Ok, Err}
 use Rattle.memory.specs.Pool.{fresh}
-use Rattle.memory.specs.declared.MaybeBlock.TheVariants.{Nothing}
 use Rattle.ring.specs.Ring.{empty_ring, popped}
 use Rattle.ring.specs.declared.Flavor.{Flavor}
-use Rattle.ring.specs.declared.Pop.{Pop}
 use Rattle.ring.specs.declared.RingPop.{RingPop}
 use Rattle.state.specs.List.{setup_good, state_good, limit_good, room_good}
 use Rattle.state.specs.declared.Queue.{Queue}
@@ -21,14 +19,9 @@ use Rattle.state.specs.declared.Refusal.{Refusal}
 use Rattle.state.specs.declared.Refusal.TheVariants.{BadSetup, BadState, NoThread, Busy, NoLimit, NoRoom}
 use Rattle.state.specs.declared.Thread.{Thread}
 use Rattle.machine.specs.declared.Request.{Request}
-use Rattle.machine.specs.declared.Began.{Began}
 use Rattle.machine.specs.declared.Begun.{Begun}
-use Rattle.machine.specs.declared.Popped.{Popped}
 use Rattle.machine.specs.declared.RingPopped.{RingPopped}
-use Rattle.machine.specs.declared.Ready.{Ready}
 use Rattle.machine.specs.declared.Started.{Started}
-use Rattle.machine.specs.declared.Tested.{Tested}
-use Rattle.machine.specs.declared.Tested.TheVariants.{Passes, Refuses}
 use Rattle.machine.specs.Step.{After, done, once, step_of, run_from, is_idle}
 
 -- setup: block 0 taken, head and tail at index 0 on it, all other blocks free; refused as every entry refuses BAD_SETUP
@@ -48,7 +41,7 @@ abbrev pub set_up : ℕ → ℕ → ℕ → ℕ → Started
 set_up threads blocks ceiling len =
     record {
       queue = at_start threads blocks ceiling;
-      answer = cond (setup_good (at_start threads blocks ceiling) len) Ready.Ready (Ready.Refused BadSetup);
+      answer = cond (setup_good (at_start threads blocks ceiling) len) (Ok tt) (Err BadSetup);
     }
 
 abbrev pub set_up_pool : ℕ → ℕ → ℕ → List ℕ → List ℕ
@@ -60,28 +53,28 @@ abbrev pub idle_thread : Flavor → Thread
 idle_thread f = record { ring = empty_ring f; call = Idle; taken = replicate 63 0 }
 
 -- 1, 2 and 3, of what the entry is handed and the thread number n: which refusal comes first, if any
-unfoldable pub tested : Queue → List ℕ → Thread → ℕ → Tested
+unfoldable pub tested : Queue → List ℕ → Thread → ℕ → Result Unit Refusal
 tested q m t n =
     cond (setup_good q (length m))
-    (cond (state_good q m t) (cond (ltb n q.threads) Passes (Refuses NoThread)) (Refuses BadState))
-    (Refuses BadSetup)
+    (cond (state_good q m t) (cond (ltb n q.threads) (Ok tt) (Err NoThread)) (Err BadState))
+    (Err BadSetup)
 
 -- step: 1, 2, 3, then IDLE
 abbrev pub refused_after : Queue → List ℕ → Thread → Refusal → After
 refused_after q m t r = done q m t (Refused r) 0
 
-abbrev pub step_tested : Queue → List ℕ → Thread → Tested → After
-step_tested q m t (Refuses r) = refused_after q m t r
-step_tested q m t Passes =
+abbrev pub step_tested : Queue → List ℕ → Thread → Result Unit Refusal → After
+step_tested q m t (Err r) = refused_after q m t r
+step_tested q m t (Ok tt) =
     cond (is_idle t.call) (refused_after q m t Rattle.state.specs.declared.Refusal.TheVariants.Idle) (once m (step_of q m t))
 
 unfoldable pub step_entry : Queue → List ℕ → Thread → ℕ → After
 step_entry q m t n = step_tested q m t (tested q m t n)
 
 -- run: as step
-abbrev pub run_tested : Queue → List ℕ → Thread → ℕ → Tested → After
-run_tested q m t budget (Refuses r) = refused_after q m t r
-run_tested q m t budget Passes =
+abbrev pub run_tested : Queue → List ℕ → Thread → ℕ → Result Unit Refusal → After
+run_tested q m t budget (Err r) = refused_after q m t r
+run_tested q m t budget (Ok tt) =
     cond (is_idle t.call) (refused_after q m t Rattle.state.specs.declared.Refusal.TheVariants.Idle) (run_from budget q m t)
 
 unfoldable pub run_entry : Queue → List ℕ → Thread → ℕ → ℕ → After
@@ -89,7 +82,7 @@ run_entry q m t n budget = run_tested q m t budget (tested q m t n)
 
 -- begin: 1, 2, 3, then BUSY, NO_LIMIT, NO_ROOM; an accepted begin opens the call at its first line
 abbrev pub opened : Request → Call
-opened (Request.Push token) = Push (P1 token Nothing)
+opened (Request.Push token) = Push (P1 token None)
 opened Request.Steal = Rattle.state.specs.declared.Call.TheVariants.Steal (S1 Steal)
 opened (Request.Batch limit) = Rattle.state.specs.declared.Call.TheVariants.Steal (S1 (Batch limit))
 opened (Request.Take limit) = Rattle.state.specs.declared.Call.TheVariants.Steal (S1 (Take limit))
@@ -106,14 +99,14 @@ tested_as Request.Len = Steal
 tested_as Request.Empty = Steal
 
 abbrev pub not_begun : Thread → Refusal → Begun
-not_begun t r = record { thread = t; answer = Began.Refused r }
+not_begun t r = record { thread = t; answer = Err r }
 
 abbrev pub begun : Thread → Request → Begun
-begun t what = record { thread = record { ring = t.ring; call = opened what; taken = t.taken }; answer = Began.Open }
+begun t what = record { thread = record { ring = t.ring; call = opened what; taken = t.taken }; answer = Ok tt }
 
-abbrev pub begin_tested : Thread → Request → Tested → Begun
-begin_tested t what (Refuses r) = not_begun t r
-begin_tested t what Passes =
+abbrev pub begin_tested : Thread → Request → Result Unit Refusal → Begun
+begin_tested t what (Err r) = not_begun t r
+begin_tested t what (Ok tt) =
     cond (is_idle t.call)
     (cond (limit_good (tested_as what))
     (cond (room_good (tested_as what) t.ring.count) (begun t what) (not_begun t NoRoom))
@@ -124,19 +117,15 @@ unfoldable pub begin_entry : Queue → List ℕ → Thread → ℕ → Request �
 begin_entry q m t n what = begin_tested t what (tested q m t n)
 
 -- ring pop: 1, 2, 3, then BUSY
-abbrev pub popped_as : Pop → Popped
-popped_as (Pop.Task token) = Popped.Task token
-popped_as Pop.Nothing = Popped.Nothing
-
 abbrev pub after_pop : Thread → RingPop → RingPopped
-after_pop t p = record { thread = record { ring = p.ring; call = t.call; taken = t.taken }; answer = popped_as p.token }
+after_pop t p = record { thread = record { ring = p.ring; call = t.call; taken = t.taken }; answer = Ok p.token }
 
 abbrev pub not_popped : Thread → Refusal → RingPopped
-not_popped t r = record { thread = t; answer = Popped.Refused r }
+not_popped t r = record { thread = t; answer = Err r }
 
-abbrev pub pop_tested : Thread → Tested → RingPopped
-pop_tested t (Refuses r) = not_popped t r
-pop_tested t Passes = cond (is_idle t.call) (after_pop t (popped t.ring)) (not_popped t Busy)
+abbrev pub pop_tested : Thread → Result Unit Refusal → RingPopped
+pop_tested t (Err r) = not_popped t r
+pop_tested t (Ok tt) = cond (is_idle t.call) (after_pop t (popped t.ring)) (not_popped t Busy)
 
 unfoldable pub pop_entry : Queue → List ℕ → Thread → ℕ → RingPopped
 pop_entry q m t n = pop_tested t (tested q m t n)

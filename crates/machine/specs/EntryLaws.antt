@@ -1,5 +1,5 @@
 -- What each entry that is handed a thread gives back, case by case, in the order of its tests.
-use Rattle.std.specs.Prelude.{ℕ, ◌≡◌, true, false, List}
+use Rattle.std.specs.Prelude.{ℕ, ◌≡◌, true, false, List, Ok, Err}
 use Rattle.ring.specs.Ring.{popped}
 use Rattle.state.specs.List.{limit_good, room_good}
 use Rattle.state.specs.declared.Queue.{Queue}
@@ -7,24 +7,23 @@ use Rattle.state.specs.declared.Thread.{Thread}
 use Rattle.state.specs.declared.Refusal.{Refusal}
 use Rattle.state.specs.declared.Refusal.TheVariants.{Idle, Busy, NoLimit, NoRoom}
 use Rattle.machine.specs.declared.Request.{Request}
-use Rattle.machine.specs.declared.Tested.TheVariants.{Passes, Refuses}
 use Rattle.machine.specs.Step.{is_idle, once, step_of}
 use Rattle.machine.specs.Entry.{tested, refused_after, step_entry, tested_as, not_begun, begun, begin_entry, after_pop, not_popped, pop_entry}
 
 module _ (q : Queue) (m : List ℕ) (t : Thread) (n : ℕ) where
-  pub step-refused : {r : Refusal} → tested q m t n ≡ Refuses r → step_entry q m t n ≡ refused_after q m t r
+  pub step-refused : {r : Refusal} → tested q m t n ≡ Err r → step_entry q m t n ≡ refused_after q m t r
   unfolding step_entry
   step-refused e = rw e
 
-  pub begin_refused : {r : Refusal} (what : Request) → tested q m t n ≡ Refuses r → begin_entry q m t n what ≡ not_begun t r
+  pub begin_refused : {r : Refusal} (what : Request) → tested q m t n ≡ Err r → begin_entry q m t n what ≡ not_begun t r
   unfolding begin_entry
   begin_refused what e = rw e
 
-  pub pop-refused : {r : Refusal} → tested q m t n ≡ Refuses r → pop_entry q m t n ≡ not_popped t r
+  pub pop-refused : {r : Refusal} → tested q m t n ≡ Err r → pop_entry q m t n ≡ not_popped t r
   unfolding pop_entry
   pop-refused e = rw e
 
-  module _ (passes : tested q m t n ≡ Passes) where
+  module _ (passes : tested q m t n ≡ Ok tt) where
     pub step-idle : is_idle t.call ≡ true → step_entry q m t n ≡ refused_after q m t Idle
     unfolding step_entry
     step-idle i = rw (passes, i)

@@ -1,14 +1,12 @@
 -- The step table of document 01, "Push": one definition a line, in the table's order.
 -- t is the tail index that the call loaded, b the tail's block, held the block it holds, if any.
-use Rattle.std.specs.Prelude.{ℕ, Bool, true, false, cond, List, leb, eqb}
+use Rattle.std.specs.Prelude.{ℕ, Bool, true, false, cond, List, leb, eqb, Option, None, Some}
 use Rattle.index.specs.Position.{position, lap, offset}
 use Rattle.index.specs.Claim.{advanced}
 use Rattle.index.specs.declared.Index.{Index}
 use Rattle.memory.specs.Layout.{state, or}
 use Rattle.memory.specs.Touch.{Touch, leaves, writes_token, writes_state, links, frees, clears}
 use Rattle.memory.specs.Pool.{pick}
-use Rattle.memory.specs.declared.MaybeBlock.{MaybeBlock}
-use Rattle.memory.specs.declared.MaybeBlock.TheVariants.{Nothing, Block}
 use Rattle.memory.specs.declared.Mark.TheVariants.{Write}
 use Rattle.state.specs.Move.{Move, on, ends, with_tail, with_tail_block}
 use Rattle.state.specs.declared.Queue.{Queue}
@@ -23,20 +21,20 @@ abbrev pub to : Queue → PushLine → Touch → Move
 to q line touch = on q (Push line) touch
 
 -- P1 load tail index t
-abbrev pub p1 : Queue → ℕ → MaybeBlock → Move
+abbrev pub p1 : Queue → ℕ → Option ℕ → Move
 p1 q token held = to q (P2 token q.tail held) leaves
 
 -- P2 load tail block b. Offset 63: P1. Lap of t at L or more: SPENT, by P10 if a block is held.
 -- Offset 62 and none held: P3. Else P4.
-abbrev pub p2_spent : Queue → MaybeBlock → Move
-p2_spent q Nothing = ends q (Refused Spent) leaves
-p2_spent q (Block x) = to q (P10 x true) leaves
+abbrev pub p2_spent : Queue → Option ℕ → Move
+p2_spent q None = ends q (Refused Spent) leaves
+p2_spent q (Some x) = to q (P10 x true) leaves
 
-abbrev pub p2_last : Queue → ℕ → Index → MaybeBlock → Move
-p2_last q token t Nothing = to q (P3 token t q.tail_block) leaves
-p2_last q token t (Block x) = to q (P4 token t q.tail_block (Block x)) leaves
+abbrev pub p2_last : Queue → ℕ → Index → Option ℕ → Move
+p2_last q token t None = to q (P3 token t q.tail_block) leaves
+p2_last q token t (Some x) = to q (P4 token t q.tail_block (Some x)) leaves
 
-unfoldable pub p2 : Queue → ℕ → Index → MaybeBlock → Move
+unfoldable pub p2 : Queue → ℕ → Index → Option ℕ → Move
 p2 q token t held =
     cond (eqb (offset (position t.raw)) 63) (to q (P1 token held) leaves)
     (cond (leb q.ceiling (lap (position t.raw))) (p2_spent q held)
@@ -44,28 +42,28 @@ p2 q token t held =
     (to q (P4 token t q.tail_block held) leaves)))
 
 -- P3 take a block; none free: NO_BLOCK
-abbrev pub p3_took : Queue → ℕ → Index → ℕ → MaybeBlock → Move
-p3_took q token t b Nothing = ends q (Refused NoBlock) leaves
-p3_took q token t b (Block x) = to q (P4 token t b (Block x)) (clears x)
+abbrev pub p3_took : Queue → ℕ → Index → ℕ → Option ℕ → Move
+p3_took q token t b None = ends q (Refused NoBlock) leaves
+p3_took q token t b (Some x) = to q (P4 token t b (Some x)) (clears x)
 
 unfoldable pub p3 : Queue → List ℕ → ℕ → Index → ℕ → Move
 p3 q m token t b = p3_took q token t b (pick m q.blocks)
 
 -- P4 compare t, set t + 2; failed: t is the value seen, to P2. Offset 62: P5, else P8.
-abbrev pub p4_last : ℕ → Index → ℕ → MaybeBlock → PushLine
-p4_last token t b Nothing = P8 token t b Nothing
-p4_last token t b (Block x) = P5 token t b x
+abbrev pub p4_last : ℕ → Index → ℕ → Option ℕ → PushLine
+p4_last token t b None = P8 token t b None
+p4_last token t b (Some x) = P5 token t b x
 
-abbrev pub p4_won : Queue → ℕ → Index → ℕ → MaybeBlock → Move
+abbrev pub p4_won : Queue → ℕ → Index → ℕ → Option ℕ → Move
 p4_won q token t b held =
     to (with_tail q (record { raw = advanced t.raw 1 }))
     (cond (eqb (offset (position t.raw)) 62) (p4_last token t b held) (P8 token t b held))
     leaves
 
-abbrev pub p4_lost : Queue → ℕ → MaybeBlock → Move
+abbrev pub p4_lost : Queue → ℕ → Option ℕ → Move
 p4_lost q token held = to q (P2 token q.tail held) leaves
 
-unfoldable pub p4 : Queue → ℕ → Index → ℕ → MaybeBlock → Move
+unfoldable pub p4 : Queue → ℕ → Index → ℕ → Option ℕ → Move
 p4 q token t b held = cond (eqb q.tail.raw t.raw) (p4_won q token t b held) (p4_lost q token held)
 
 -- P5 store tail block
@@ -78,18 +76,18 @@ p6 q token t b x = to (with_tail q (record { raw = advanced t.raw 2 })) (P7 toke
 
 -- P7 store b's next; the block is held no longer
 abbrev pub p7 : Queue → ℕ → Index → ℕ → ℕ → Move
-p7 q token t b x = to q (P8 token t b Nothing) (links b x)
+p7 q token t b x = to q (P8 token t b None) (links b x)
 
 -- P8 write the token
-abbrev pub p8 : Queue → ℕ → Index → ℕ → MaybeBlock → Move
+abbrev pub p8 : Queue → ℕ → Index → ℕ → Option ℕ → Move
 p8 q token t b held = to q (P9 token t b held) (writes_token b (offset (position t.raw)) token)
 
 -- P9 or WRITE; P10, only if a block is still held
-abbrev pub p9_ends : Queue → MaybeBlock → Touch → Move
-p9_ends q Nothing touch = ends q Pushed touch
-p9_ends q (Block x) touch = to q (P10 x false) touch
+abbrev pub p9_ends : Queue → Option ℕ → Touch → Move
+p9_ends q None touch = ends q Pushed touch
+p9_ends q (Some x) touch = to q (P10 x false) touch
 
-unfoldable pub p9 : Queue → List ℕ → ℕ → Index → ℕ → MaybeBlock → Move
+unfoldable pub p9 : Queue → List ℕ → ℕ → Index → ℕ → Option ℕ → Move
 p9 q m token t b held =
     p9_ends q held
     (writes_state b (offset (position t.raw)) (or (state m b (offset (position t.raw))) Write))

@@ -1,14 +1,12 @@
 -- The step table of document 01, "Steal, and both batches": one definition a line, in the table's order.
 -- h is the head index that the call loaded; a claim is h, the head's block and the advance.
-use Rattle.std.specs.Prelude.{ℕ, ◌+◌, ◌-◌, Bool, true, false, not, cond, List, get_or, set, eqb}
+use Rattle.std.specs.Prelude.{ℕ, ◌+◌, ◌-◌, Bool, true, false, not, cond, List, get_or, set, eqb, Option, None, Some}
 use Rattle.index.specs.Position.{position, lap, offset, has_next}
 use Rattle.index.specs.Claim.{advanced, claimed, left_lap}
 use Rattle.index.specs.Length.{to_block_end, batch_advance}
 use Rattle.index.specs.declared.Index.{Index}
 use Rattle.memory.specs.Layout.{token, state, next, has, or}
 use Rattle.memory.specs.Touch.{Touch, leaves, writes_state, frees}
-use Rattle.memory.specs.declared.MaybeBlock.{MaybeBlock}
-use Rattle.memory.specs.declared.MaybeBlock.TheVariants.{Nothing, Block}
 use Rattle.memory.specs.declared.Mark.TheVariants.{Write, Read, Destroy}
 use Rattle.ring.specs.Ring.{entered}
 use Rattle.state.specs.Move.{Move, Step, on, ends, with_head, with_head_block, settled}
@@ -79,17 +77,17 @@ unfoldable pub s4 : Queue → Kind → Claim → Bool → Move
 s4 q k c more = cond (eqb q.head.raw c.head.raw) (s4_won q k c more) (ends q Retry leaves)
 
 -- S5 load next; none: S5
-abbrev pub s5_next : Queue → Kind → Claim → MaybeBlock → Move
-s5_next q k c Nothing = to q (S5 k c) leaves
-s5_next q k c (Block x) = to q (S6 k c x) leaves
+abbrev pub s5_next : Queue → Kind → Claim → Option ℕ → Move
+s5_next q k c None = to q (S5 k c) leaves
+s5_next q k c (Some x) = to q (S6 k c x) leaves
 
 unfoldable pub s5 : Queue → List ℕ → Kind → Claim → Move
 s5 q m k c = s5_next q k c (next m c.block)
 
 -- S6 load next's next
-abbrev pub some : MaybeBlock → Bool
-some Nothing = false
-some (Block x) = true
+abbrev pub some : Option ℕ → Bool
+some None = false
+some (Some x) = true
 
 abbrev pub s6 : Queue → List ℕ → Kind → Claim → ℕ → Move
 s6 q m k c x = to q (S7 k c x (some (next m x))) leaves

@@ -1,11 +1,9 @@
 -- What the list tells of a line's claim and of the ring's room, and which lines leave the lent memory alone.
-use Rattle.std.specs.Prelude.{ℕ, ◌+◌, ◌-◌, ◌≤◌, min, ◌≡◌, refl, Bool, true, ◌&&◌, List}
+use Rattle.std.specs.Prelude.{ℕ, ◌+◌, ◌-◌, ◌≤◌, min, ◌≡◌, refl, Bool, true, ◌&&◌, List, Option, None, Some}
 use Rattle.std.proofs.Common.{ap, arith, leb-true, eqb-true}
 use Rattle.index.specs.declared.Index.{Index}
 use Rattle.memory.specs.Layout.{next}
 use Rattle.memory.specs.Touch.{leaves}
-use Rattle.memory.specs.declared.MaybeBlock.{MaybeBlock}
-use Rattle.memory.specs.declared.MaybeBlock.TheVariants.{Nothing, Block}
 use Rattle.state.specs.List.{limit_good, room_good, open_good, within_limit, claim_open, claim_good, in_claim, steal_good}
 use Rattle.state.specs.ListLaws.{both, in_claim_lem, opened, Claimed, In}
 use Rattle.state.specs.MoveLaws.{either-touch, same-touch}
@@ -97,9 +95,9 @@ module _ (q : Queue) (k : Kind) where
   unfolding s4
   s4-leaves c more = simp (either-touch, same-touch)
 
-  next-leaves : (c : Claim) (x : MaybeBlock) → (s5_next q k c x).touch ≡ leaves
-  next-leaves c Nothing = refl
-  next-leaves c (Block x) = refl
+  next-leaves : (c : Claim) (x : Option ℕ) → (s5_next q k c x).touch ≡ leaves
+  next-leaves c None = refl
+  next-leaves c (Some x) = refl
 
   pub s5-leaves : (m : List ℕ) (c : Claim) → (s5 q m k c).touch ≡ leaves
   unfolding s5

@@ -1,5 +1,5 @@
 -- What the entries' tests tell: of a state that passed them, and of the line at which a good record stands.
-use Rattle.std.specs.Prelude.{ℕ, ◌*◌, ◌≤◌, ◌<◌, ◌≡◌, refl, Bool, true, false, cond, ◌&&◌, List, length, ltb, leb, eqb}
+use Rattle.std.specs.Prelude.{ℕ, ◌*◌, ◌≤◌, ◌<◌, ◌≡◌, refl, Bool, true, false, cond, ◌&&◌, List, length, ltb, leb, eqb, Ok, Err}
 use Rattle.std.proofs.Common.{arith}
 use borrow.Author.Tests.{ltb-true, leb-true}
 use Rattle.index.specs.Position.{position}
@@ -12,7 +12,6 @@ use Rattle.state.specs.declared.PushLine.{PushLine}
 use Rattle.state.specs.declared.StealLine.{StealLine}
 use Rattle.state.specs.declared.Call.TheVariants.{Push, Steal}
 use Rattle.state.specs.declared.Refusal.TheVariants.{BadSetup, BadState, NoThread}
-use Rattle.machine.specs.declared.Tested.TheVariants.{Passes, Refuses}
 use Rattle.machine.specs.Entry.{tested}
 
 -- the three tests that every entry makes first
@@ -21,13 +20,13 @@ pub record Passed (q : Queue) (m : List ℕ) (t : Thread) (n : ℕ) : Type 0 whe
   pub state : state_good q m t ≡ true
   pub number : n < q.threads
 
-all_pass : (a b d : Bool) → cond a (cond b (cond d Passes (Refuses NoThread)) (Refuses BadState)) (Refuses BadSetup) ≡ Passes → (a ≡ true) × ((b ≡ true) × (d ≡ true))
+all_pass : (a b d : Bool) → cond a (cond b (cond d (Ok (tt {0})) (Err NoThread)) (Err BadState)) (Err BadSetup) ≡ Ok tt → (a ≡ true) × ((b ≡ true) × (d ≡ true))
 all_pass true true true e = (refl, (refl, refl))
 all_pass true true false e = absurd (let z : ◌≡◌ {A = ℕ} 0 1 = cc in omega arith)
 all_pass true false d e = absurd (let z : ◌≡◌ {A = ℕ} 0 1 = cc in omega arith)
 all_pass false b d e = absurd (let z : ◌≡◌ {A = ℕ} 0 1 = cc in omega arith)
 
-pub passed : (q : Queue) (m : List ℕ) (t : Thread) (n : ℕ) → tested q m t n ≡ Passes → Passed q m t n
+pub passed : (q : Queue) (m : List ℕ) (t : Thread) (n : ℕ) → tested q m t n ≡ Ok tt → Passed q m t n
 unfolding tested
 passed q m t n e =
     let p = all_pass (setup_good q (length m)) (state_good q m t) (ltb n q.threads) e in

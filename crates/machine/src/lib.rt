@@ -4,11 +4,11 @@
 
 ghost use Rattle.std.specs.Prelude.{◌≡◌};
 ghost use Rattle.memory.specs.Touch.{leaves};
+ghost use Rattle.state.specs.declared.Answer.TheVariants.{Open};
 ghost use Rattle.state.specs.Move as move;
 
 use state::{Answer, Call, Made, Queue, Refusal, Thread};
 
-pub mod pushes;
 pub mod steals;
 
 // The calls that a thread may begin.
@@ -23,28 +23,15 @@ pub enum Request {
 }
 
 #[derive(Clone, Copy)]
-pub enum Began {
-    Open,
-    Refused(Refusal),
-}
-
-#[derive(Clone, Copy)]
 pub struct Begun {
     pub thread: Thread,
-    pub answer: Began,
-}
-
-#[derive(Clone, Copy)]
-pub enum Popped {
-    Task(u64),
-    Nothing,
-    Refused(Refusal),
+    pub answer: Result<(), Refusal>,
 }
 
 #[derive(Clone, Copy)]
 pub struct RingPopped {
     pub thread: Thread,
-    pub answer: Popped,
+    pub answer: Result<Option<u64>, Refusal>,
 }
 
 // What a step or a run gives back; `steps` is the number of table lines made.
@@ -57,30 +44,22 @@ pub struct Ran {
 }
 
 #[derive(Clone, Copy)]
-pub enum Ready {
-    Ready,
-    Refused(Refusal),
-}
-
-#[derive(Clone, Copy)]
 pub struct Started {
     pub queue: Queue,
-    pub answer: Ready,
+    pub answer: Result<(), Refusal>,
 }
 
-// How many blocks the chain from the head's block to the tail's has.
-#[derive(Clone, Copy)]
-pub enum Audited {
-    Blocks(u64),
-    Unreached,
-    Refused(Refusal),
-}
-
-// The refusals that every entry tests first, in their order.
-#[derive(Clone, Copy)]
-pub enum Tested {
-    Passes,
-    Refuses(Refusal),
+// A line's call goes on at a line of its own kind.
+pub fn to<L: Into<Call>>(q: Queue, line: L) -> Made
+    ensures queue_value { result.queue ≡ q }
+    ensures call_value { L.converts line result.call }
+    ensures answer_value { result.answer ≡ Open }
+{
+    Made {
+        queue: q,
+        call: line.into(),
+        answer: Answer::Open,
+    }
 }
 
 // A line's call ends.

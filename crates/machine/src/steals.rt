@@ -1,19 +1,8 @@
-// A steal's call goes on at a line; and of a claim: its slots.
+// Of a claim: its slots, and where the walk over them goes.
 ghost use Rattle.std.specs.Prelude.{◌≡◌, ◌≤◌};
-ghost use Rattle.memory.specs.Touch.{leaves};
 ghost use Rattle.machine.specs.Steal as spec;
 
-use state::{Answer, Call, Claim, Made, Queue, StealLine, Won};
-
-pub fn to(q: Queue, line: StealLine) -> Made
-    ensures { result ≡ (spec.to q line leaves).made }
-{
-    Made {
-        queue: q,
-        call: Call::Steal(line),
-        answer: Answer::Open,
-    }
-}
+use state::{Claim, StealLine, Won};
 
 pub fn first(claim: Claim) -> u64
     ensures { result ≡ spec.first claim }

@@ -1,8 +1,7 @@
 -- A store changes its own cell and no other: what each reader reads where a touch does not hit, and what setup leaves.
-use Rattle.std.specs.Prelude.{ℕ, zero, suc, ◌+◌, ◌*◌, ◌-◌, ◌<◌, ◌≤◌, ◌≡◌, refl, true, false, List, get_or, set, replicate, eqb}
+use Rattle.std.specs.Prelude.{ℕ, zero, suc, ◌+◌, ◌*◌, ◌-◌, ◌<◌, ◌≤◌, ◌≡◌, refl, true, false, List, get_or, set, replicate, eqb, None}
 use Rattle.std.proofs.Common.{ap, ap₂, ◌∙◌, ⊎_elim, arith, eq-or-lt_of_le, get_or-set_other}
 use Rattle.std.proofs.lemmas.List.{length-replicate}
-use Rattle.memory.specs.declared.MaybeBlock.TheVariants.{Nothing}
 use Rattle.memory.specs.Layout.{token, state, next, is_free, link}
 use Rattle.memory.specs.Touch.{Touch, leaves, writes_token, writes_state, links, frees, clears, after, cleared}
 use Rattle.memory.specs.Pool.{freed, fresh}
@@ -149,7 +148,7 @@ module _ (len n : ℕ) where
   pub fresh-state : (b s : ℕ) → s < 63 → state (fresh len n) b s ≡ 0
   fresh-state b s g = fresh-cell (state_of b s) g (λ a i j e. no (cc))
 
-  pub fresh-next : (b : ℕ) → next (fresh len n) b ≡ Nothing
+  pub fresh-next : (b : ℕ) → next (fresh len n) b ≡ None
   fresh-next b = ap link (fresh-cell (next_of b) tt (λ a i j e. no (cc)))
 
   -- in use: block 0, and what is no block of the pool

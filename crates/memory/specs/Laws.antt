@@ -1,11 +1,9 @@
 -- What everybody cites of the lent memory: what each reader reads where a touch hits, the bits of a state, which block is
 -- taken, and the published lengths; where a touch does not hit is proofs/Apart.antt. The slots are those below 63.
-use Rattle.std.specs.Prelude.{ℕ, zero, suc, ◌+◌, ◌-◌, ◌/◌, ◌%◌, ◌<◌, ◌≤◌, ◌≡◌, refl, ◌↔◌, Bool, true, false, cond, List, length, replicate, eqb}
+use Rattle.std.specs.Prelude.{ℕ, zero, suc, ◌+◌, ◌-◌, ◌/◌, ◌%◌, ◌<◌, ◌≤◌, ◌≡◌, refl, ◌↔◌, Bool, true, false, cond, List, length, replicate, eqb, Option, None, Some}
 use Rattle.std.proofs.Common.{ap, ◌∙◌, ⊎_elim, arith, eq-or-lt_of_le, add-one, eq-eqb, ne_eqb}
 use Rattle.std.proofs.lemmas.List.{length-replicate}
 use Rattle.std.proofs.lemmas.Bool.{eqb-false}
-use Rattle.memory.specs.declared.MaybeBlock.{MaybeBlock}
-use Rattle.memory.specs.declared.MaybeBlock.TheVariants.{Nothing, Block}
 use Rattle.memory.specs.declared.Mark.{Mark}
 use Rattle.memory.specs.declared.Mark.TheVariants.{Write, Read, Destroy}
 use Rattle.memory.specs.Layout.{token, state, next, is_free, link, bit, has, or}
@@ -25,21 +23,21 @@ cond_elim P false x y f g = g refl
 pub no : ◌≡◌ {A = ℕ} 0 1 → ⊥
 no z = omega arith
 
-link-suc : (x : ℕ) → link (suc x) ≡ Block x
+link-suc : (x : ℕ) → link (suc x) ≡ Some x
 link-suc x =
     let e : suc x - 1 ≡ x = omega arith in
     rw (ne_eqb (suc x) 0 (λ (z : suc x ≡ 0). omega arith), e)
 
-pub link-more : (x : ℕ) → link (x + 1) ≡ Block x
+pub link-more : (x : ℕ) → link (x + 1) ≡ Some x
 link-more x = rw add-one (link-suc x)
 
-pub link-block : (w x : ℕ) → link w ≡ Block x → w ≡ x + 1
+pub link-block : (w x : ℕ) → link w ≡ Some x → w ≡ x + 1
 link-block zero x e = absurd (no (cc))
 link-block (suc w) x e =
     let f : w ≡ x = cc (link-suc w) in
     omega arith
 
-pub link-nothing : (w : ℕ) → (link w ≡ Nothing) ↔ (w ≡ 0)
+pub link-nothing : (w : ℕ) → (link w ≡ None) ↔ (w ≡ 0)
 link-nothing zero = (λ e. refl, λ e. refl)
 link-nothing (suc w) = (λ e. absurd (no (cc (link-suc w))), λ (e : suc w ≡ 0). absurd (omega arith))
 
@@ -58,10 +56,10 @@ module _ (m : List ℕ) where
   pub state-cleared : (b s : ℕ) → s < 63 → state (after m (clears b)) b s ≡ 0
   state-cleared b s g = cleared-cell m b (state_of b s) g refl
 
-  pub next-linked : (b x : ℕ) → Room m b → next (after m (links b x)) b ≡ Block x
+  pub next-linked : (b x : ℕ) → Room m b → next (after m (links b x)) b ≡ Some x
   next-linked b x k = ap link (touched m (links b x) (next_of b) tt tt refl k) ∙ link-more x
 
-  pub next-cleared : (b : ℕ) → next (after m (clears b)) b ≡ Nothing
+  pub next-cleared : (b : ℕ) → next (after m (clears b)) b ≡ None
   next-cleared b = ap link (cleared-cell m b (next_of b) tt refl)
 
   pub free-freed : (b : ℕ) → Room m b → is_free (after m (frees b)) b ≡ true
@@ -115,35 +113,35 @@ has-or-other j k w n = cond_elim (λ (v : ℕ). has j v ≡ has j w) (has k w) w
 
 -- ---- which block is taken
 
-found : (m : List ℕ) (b n x : ℕ) → free_from m b n ≡ Block x → (b ≤ x) × (x < b + n) × (is_free m x ≡ true)
+found : (m : List ℕ) (b n x : ℕ) → free_from m b n ≡ Some x → (b ≤ x) × (x < b + n) × (is_free m x ≡ true)
 unfolding free_from
 found m b zero x e = absurd (no (cc))
 found m b (suc n) x e =
-    cond_elim (λ (r : MaybeBlock). r ≡ Block x → (b ≤ x) × (x < b + suc n) × (is_free m x ≡ true))
+    cond_elim (λ (r : Option ℕ). r ≡ Some x → (b ≤ x) × (x < b + suc n) × (is_free m x ≡ true))
     (is_free m b)
-    (Block b)
+    (Some b)
     (free_from m (suc b) n)
     (λ f q. let k : b ≡ x = cc in (omega arith, omega arith, rw k at f))
     (λ f q. let k = found m (suc b) n x q in (omega arith, omega arith, k.2))
     e
 
-passed : (m : List ℕ) (b n x : ℕ) → free_from m b n ≡ Nothing → b ≤ x → x < b + n → is_free m x ≡ false
+passed : (m : List ℕ) (b n x : ℕ) → free_from m b n ≡ None → b ≤ x → x < b + n → is_free m x ≡ false
 unfolding free_from
 passed m b zero x e h g = absurd (omega arith)
 passed m b (suc n) x e h g =
-    cond_elim (λ (r : MaybeBlock). r ≡ Nothing → is_free m x ≡ false)
+    cond_elim (λ (r : Option ℕ). r ≡ None → is_free m x ≡ false)
     (is_free m b)
-    (Block b)
+    (Some b)
     (free_from m (suc b) n)
     (λ f q. absurd (no (cc)))
     (λ f q. ⊎_elim (λ (k : b ≡ x). rw k at f) (λ (k : b < x). passed m (suc b) n x q k (omega arith)) (eq-or-lt_of_le h))
     e
 
-pub pick-block : (m : List ℕ) (n x : ℕ) → pick m n ≡ Block x → (x < n) × (is_free m x ≡ true)
+pub pick-block : (m : List ℕ) (n x : ℕ) → pick m n ≡ Some x → (x < n) × (is_free m x ≡ true)
 unfolding pick
 pick-block m n x e = let k = found m 0 n x e in (omega arith, k.2)
 
-pub pick-none : (m : List ℕ) (n x : ℕ) → pick m n ≡ Nothing → x < n → is_free m x ≡ false
+pub pick-none : (m : List ℕ) (n x : ℕ) → pick m n ≡ None → x < n → is_free m x ≡ false
 unfolding pick
 pick-none m n x e h = passed m 0 n x e (omega arith) (omega arith)
 

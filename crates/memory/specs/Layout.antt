@@ -1,8 +1,6 @@
 -- The lent memory's layout: 128 words a block, as 63 tokens, the next block, 63 slot states, the free mark.
 -- A block that is all zeros is not free, has no next, and its slots are untouched: clearing is filling with 0.
-use Rattle.std.specs.Prelude.{ℕ, ◌+◌, ◌*◌, ◌-◌, ◌/◌, ◌%◌, Bool, cond, List, get_or, eqb}
-use Rattle.memory.specs.declared.MaybeBlock.{MaybeBlock}
-use Rattle.memory.specs.declared.MaybeBlock.TheVariants.{Nothing, Block}
+use Rattle.std.specs.Prelude.{ℕ, ◌+◌, ◌*◌, ◌-◌, ◌/◌, ◌%◌, Bool, cond, List, get_or, eqb, Option, None, Some}
 use Rattle.memory.specs.declared.Mark.{Mark}
 use Rattle.memory.specs.declared.Mark.TheVariants.{Write, Read, Destroy}
 
@@ -26,10 +24,10 @@ abbrev pub state : List ℕ → ℕ → ℕ → ℕ
 state m b s = get_or m (state_at b s) 0
 
 -- the word of a next is 0 for none, and else one more than the block's number
-abbrev pub link : ℕ → MaybeBlock
-link w = cond (eqb w 0) Nothing (Block (w - 1))
+abbrev pub link : ℕ → Option ℕ
+link w = cond (eqb w 0) None (Some (w - 1))
 
-abbrev pub next : List ℕ → ℕ → MaybeBlock
+abbrev pub next : List ℕ → ℕ → Option ℕ
 next m b = link (get_or m (next_at b) 0)
 
 abbrev pub is_free : List ℕ → ℕ → Bool

@@ -13,13 +13,6 @@ pub const FAR: u64 = 0x1000_0000_0000_0000;
 
 const FAR_BLOCK: u64 = FAR / BLOCK_WORDS;
 
-// A block, where there is one: a next, a held block, a block taken.
-#[derive(Clone, Copy)]
-pub enum MaybeBlock {
-    Nothing,
-    Block(u64),
-}
-
 // The bits of a slot's state: WRITE 1, READ 2, DESTROY 4.
 #[derive(Clone, Copy)]
 pub enum Mark {
@@ -80,14 +73,14 @@ pub fn state(pool: &[u64], block: u64, slot: u64) -> u64
     read(pool, block, 64 + slot)
 }
 
-pub fn next(pool: &[u64], block: u64) -> MaybeBlock
+pub fn next(pool: &[u64], block: u64) -> Option<u64>
     ensures { result ≡ next pool.now block }
 {
     let word = read(pool, block, 63);
     if word == 0 {
-        return MaybeBlock::Nothing;
+        return None;
     }
-    MaybeBlock::Block(word - 1)
+    Some(word - 1)
 }
 
 // `next` is stored as one more. The sum must fit, and a block's number is below the pool's size, far below the largest.

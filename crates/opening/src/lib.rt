@@ -6,7 +6,7 @@ ghost use Rattle.text.specs.Print.{Wrote, bad_bytes, end_bytes};
 ghost use Rattle.replayed.specs.Replay.{over, queue_line, first_line, line_of};
 
 use lines::{first_line, say_bad, say_refused, words};
-use replayed::{Fed, Opening, Replay};
+use replayed::{Fed, Replay};
 use whole::{opened, over};
 
 fn bad_first(mut replay: Replay, read: usize, out: &mut [u8]) -> Fed
@@ -77,7 +77,7 @@ pub fn open_line(replay: Replay, read: usize, pool: &mut [u64], out: &mut [u8]) 
     ensures written_bound { result.written ≤ 256 }
 {
     let line = replay.line;
-    let Opening::Queue(threads, blocks, ceiling) = first_line(&line, replay.held) else {
+    let Some((threads, blocks, ceiling)) = first_line(&line, replay.held) else {
         return bad_first(replay, read, out);
     };
     open_queue(replay, read, threads, blocks, ceiling, pool, out)

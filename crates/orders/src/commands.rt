@@ -2,16 +2,16 @@
 ghost use Rattle.std.specs.Prelude.{◌≡◌};
 ghost use Rattle.replayed.specs.Command.{refused_said, answer_said, began_said, popped_said, begins, pops, steps_one, runs, request_of, order_of};
 
-use machine::{Began, Popped, Ran, Request};
+use machine::{Ran, Request};
 use places::thread_number;
 use replayed::{Done, Said};
-use state::{Answer, Queue, Refusal, Thread, refusal_number};
+use state::{Answer, Queue, Refusal, Thread};
 use text::{Command, Word};
 
 fn refused_said(refusal: Refusal) -> Said
     ensures { result ≡ refused_said refusal }
 {
-    Said::Numbered(Word::Refused, refusal_number(refusal))
+    Said::Numbered(Word::Refused, u64::from(refusal))
 }
 
 // `still` is what is said of a call that stays open.
@@ -32,22 +32,22 @@ fn answer_said(still: Said, answer: Answer) -> Said
     }
 }
 
-fn began_said(began: Began) -> Said
+fn began_said(began: Result<(), Refusal>) -> Said
     ensures { result ≡ began_said began }
 {
     match began {
-        Began::Open => Said::Silent,
-        Began::Refused(refusal) => refused_said(refusal),
+        Ok(()) => Said::Silent,
+        Err(refusal) => refused_said(refusal),
     }
 }
 
-fn popped_said(popped: Popped) -> Said
+fn popped_said(popped: Result<Option<u64>, Refusal>) -> Said
     ensures { result ≡ popped_said popped }
 {
     match popped {
-        Popped::Task(token) => Said::Numbered(Word::Task, token),
-        Popped::Nothing => Said::Plain(Word::Nothing),
-        Popped::Refused(refusal) => refused_said(refusal),
+        Ok(Some(token)) => Said::Numbered(Word::Task, token),
+        Ok(None) => Said::Plain(Word::Nothing),
+        Err(refusal) => refused_said(refusal),
     }
 }
 

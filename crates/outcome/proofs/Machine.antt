@@ -7,12 +7,6 @@ use Rattle.machine as machine
 pub ends : One machine.specs.contracts.ends.ended machine.proofs.ends.Reads.Learnt
 ends _ _ _ _ _ _ p q = (both p q, refl)
 
-pub pushes_to : One machine.specs.contracts.pushes.to.ended machine.proofs.pushes.to.Reads.Learnt
-pushes_to _ _ _ _ _ _ p q = (both p q, refl)
-
-pub steals_to : One machine.specs.contracts.steals.to.ended machine.proofs.steals.to.Reads.Learnt
-steals_to _ _ _ _ _ _ p q = (both p q, refl)
-
 pub steals_first : One machine.specs.contracts.steals.first.ended machine.proofs.steals.first.Reads.Learnt
 steals_first _ _ _ _ _ _ p q = (both p q, refl)
 

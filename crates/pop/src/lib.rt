@@ -2,28 +2,18 @@
 #![tactic(auto)]
 
 ghost use Rattle.std.specs.Prelude.{◌≡◌};
-ghost use Rattle.machine.specs.Entry.{popped_as, not_popped, pop_entry};
+ghost use Rattle.machine.specs.Entry.{not_popped, pop_entry};
 
 use entry::test_idle;
-use machine::{Popped, RingPopped, Tested};
-use ring::Pop;
+use machine::RingPopped;
 use state::{Queue, Refusal, Thread};
-
-fn popped_as(pop: Pop) -> Popped
-    ensures { result ≡ popped_as pop }
-{
-    match pop {
-        Pop::Task(token) => Popped::Task(token),
-        Pop::Nothing => Popped::Nothing,
-    }
-}
 
 fn not_popped(thread: Thread, refusal: Refusal) -> RingPopped
     ensures { result ≡ not_popped thread refusal }
 {
     RingPopped {
         thread,
-        answer: Popped::Refused(refusal),
+        answer: Err(refusal),
     }
 }
 
@@ -32,15 +22,14 @@ pub fn pop(q: Queue, pool: &[u64], thread: Thread, number: u64) -> RingPopped
     ensures { result ≡ pop_entry q pool.now thread number }
 {
     let tested = test_idle(q, pool, thread, number);
-    if let Tested::Refuses(refusal) = tested {
+    if let Err(refusal) = tested {
         return not_popped(thread, refusal);
     }
     let popped = thread.ring.pop();
     let ring = popped.ring;
     let call = thread.call;
     let taken = thread.taken;
-    let token = popped.token;
-    let answer = popped_as(token);
+    let answer = Ok(popped.token);
     RingPopped {
         thread: Thread { ring, call, taken },
         answer,

@@ -6,7 +6,6 @@ use journal::Replay;
 use std::env::Env;
 use std::io;
 use std::io::{Read, Stdout};
-use text::Parsed;
 
 pub(crate) fn write(output: Stdout, out: &[u8], written: usize) {
     if written <= out.len() {
@@ -25,8 +24,8 @@ fn feed(output: Stdout, replay: Replay, pool: &mut [u64], part: &[u8], out: &mut
 fn thread_held(replay: Replay) -> u64 {
     let line = replay.line;
     match lines::later_line(&line, replay.held) {
-        Parsed::Good(command) => places::thread_number(command),
-        Parsed::Bad => 0,
+        Some(command) => places::thread_number(command),
+        None => 0,
     }
 }
 

@@ -3,7 +3,6 @@ ghost use Rattle.std.specs.Prelude.{◌≤◌};
 
 use crate::{feeds, stands};
 use journal::Replay;
-use memory::MaybeBlock;
 use ring::{Flavor, Ring};
 use state::Queue;
 use std::io::Stdout;
@@ -69,10 +68,10 @@ pub(crate) fn command(output: Stdout, replay: Replay, pool: &[u64], number: u64,
     show_words(output, replay.steps, queue, pool, stand.count);
 }
 
-fn show_next(output: Stdout, next: MaybeBlock) {
+fn show_next(output: Stdout, next: Option<u64>) {
     match next {
-        MaybeBlock::Nothing => say::text(output, b"\t-"),
-        MaybeBlock::Block(block) => say::numbered(output, b"\t", block),
+        None => say::text(output, b"\t-"),
+        Some(block) => say::numbered(output, b"\t", block),
     }
 }
 

@@ -1,4 +1,5 @@
 -- What may be asked keeps the board tied to the ghost and the notes; a refused entry changes nothing.
+use Rattle.std.specs.Prelude.{Result, Ok, Err}
 use Prim.Native.Nat.{ℕ, ◌<◌}
 use mathlib.Core.Path.{◌≡◌, refl, sym, ap, subst, ◌∙◌}
 use mathlib.Core.Bool.{Bool, true, false, cond}
@@ -27,8 +28,6 @@ use Rattle.machine.specs.Entry.{opened, tested_as, begun, begin_tested, begin_en
 use Rattle.machine.specs.declared.Request.{Request}
 use Rattle.machine.specs.declared.Begun.{Begun}
 use Rattle.machine.specs.declared.RingPopped.{RingPopped}
-use Rattle.machine.specs.declared.Tested.{Tested}
-use Rattle.machine.specs.declared.Tested.TheVariants.{Passes, Refuses}
 use Rattle.history.specs.Board.{Board, Ask, begins, pops, steps, runs, thread_at, ran, with_thread, asked}
 use Rattle.history.specs.Log.{Note, notes_of}
 use Rattle.history.specs.History.{run_notes, unless_refused, asked_notes}
@@ -48,12 +47,12 @@ idle-call (Length line) e = clash false e refl
 idle-call (Empty line) e = clash false e refl
 
 -- an entry that passes its tests has one of the threads
-passes-thread : (q : Queue) (m : List ℕ) (t : Thread) (n : ℕ) → tested q m t n ≡ Passes → n < q.threads
+passes-thread : (q : Queue) (m : List ℕ) (t : Thread) (n : ℕ) → tested q m t n ≡ Ok tt → n < q.threads
 unfolding tested
 passes-thread q m t n e = go (setup_good q (length m)) (state_good q m t) (ltb n q.threads) refl e
   where
     go : (a b d : Bool) → ltb n q.threads ≡ d
-        → cond a (cond b (cond d Passes (Refuses NoThread)) (Refuses BadState)) (Refuses BadSetup) ≡ Passes
+        → cond a (cond b (cond d (Ok (tt {0})) (Err NoThread)) (Err BadState)) (Err BadSetup) ≡ Ok tt
         → n < q.threads
     go true true true f h = ltb-true n q.threads f
     go true true false f h = absurd (let z : ◌≡◌ {A = ℕ} 0 1 = cc in omega arith)
@@ -119,14 +118,14 @@ module _ (flavors : List Flavor) (blocks ceiling : ℕ) where
     refused : Kept (with_thread w n t) c []
     refused = record { fair = tt; world = subst (λ (x : Board). World flavors blocks ceiling x c) (sym (same-board w n)) h }
 
-    numbered : tested q m t n ≡ Passes → n < length w.threads
+    numbered : tested q m t n ≡ Ok tt → n < length w.threads
     numbered e =
         let b : n < q.threads = passes-thread q m t n e in
         let a : q.threads ≡ length flavors = h.counts.same-threads in
         let d : length w.threads ≡ length flavors = h.sized in
         omega arith
 
-    moved : (a : After) (l : List Note) → tested q m t n ≡ Passes → OutOf flavors blocks ceiling n (thread_at w) c a l → Kept (ran w n a) c l
+    moved : (a : After) (l : List Note) → tested q m t n ≡ Ok tt → OutOf flavors blocks ceiling n (thread_at w) c a l → Kept (ran w n a) c l
     moved a l e o =
         record {
           fair = o.fair;
@@ -149,20 +148,20 @@ module _ (flavors : List Flavor) (blocks ceiling : ℕ) where
         go true false = stop_out flavors blocks ceiling n (thread_at w) q m t c hand
         go false d = stop_out flavors blocks ceiling n (thread_at w) q m t c hand
 
-    step_by : (r : Tested) → tested q m t n ≡ r
+    step_by : (r : Result Unit Refusal) → tested q m t n ≡ r
         → Kept (ran w n (step_tested q m t r)) c (unless_refused r (cond (is_idle t.call) [] (run_notes 1 q m n t)))
-    step_by (Refuses r) e = refused
-    step_by Passes e = go (is_idle t.call)
+    step_by (Err r) e = refused
+    step_by (Ok tt) e = go (is_idle t.call)
       where
         go : (b : Bool)
             → Kept (ran w n (cond b (refused_after q m t Refusal.Idle) (once m (step_of q m t)))) c (cond b [] (run_notes 1 q m n t))
         go true = refused
         go false = moved (once m (step_of q m t)) (run_notes 1 q m n t) e once-out
 
-    run_by : (budget : ℕ) (r : Tested) → tested q m t n ≡ r
+    run_by : (budget : ℕ) (r : Result Unit Refusal) → tested q m t n ≡ r
         → Kept (ran w n (run_tested q m t budget r)) c (unless_refused r (cond (is_idle t.call) [] (run_notes budget q m n t)))
-    run_by budget (Refuses r) e = refused
-    run_by budget Passes e = go (is_idle t.call)
+    run_by budget (Err r) e = refused
+    run_by budget (Ok tt) e = go (is_idle t.call)
       where
         go : (b : Bool)
             → Kept (ran w n (cond b (refused_after q m t Refusal.Idle) (run_from budget q m t))) c (cond b [] (run_notes budget q m n t))
@@ -171,7 +170,7 @@ module _ (flavors : List Flavor) (blocks ceiling : ℕ) where
 
     -- ---- begin and pop: an idle thread's record is changed
 
-    changed : (u : Thread) → tested q m t n ≡ Passes → Mine flavors (state_of q m h.ghost) c n u → Kept (with_thread w n u) c []
+    changed : (u : Thread) → tested q m t n ≡ Ok tt → Mine flavors (state_of q m h.ghost) c n u → Kept (with_thread w n u) c []
     changed u e p =
         record {
           fair = tt;
@@ -191,9 +190,9 @@ module _ (flavors : List Flavor) (blocks ceiling : ℕ) where
     opened-early Request.Len e = e
     opened-early Request.Empty e = e
 
-    begin_by : (what : Request) (r : Tested) → tested q m t n ≡ r → Kept (with_thread w n (begin_tested t what r).thread) c []
-    begin_by what (Refuses r) e = refused
-    begin_by what Passes e =
+    begin_by : (what : Request) (r : Result Unit Refusal) → tested q m t n ≡ r → Kept (with_thread w n (begin_tested t what r).thread) c []
+    begin_by what (Err r) e = refused
+    begin_by what (Ok tt) e =
         cond_elim (λ (b : Begun). Kept (with_thread w n b.thread) c []) (is_idle t.call) _ _
         (λ idle.
         cond_elim (λ (b : Begun). Kept (with_thread w n b.thread) c []) (limit_good (tested_as what)) _ _
@@ -210,9 +209,9 @@ module _ (flavors : List Flavor) (blocks ceiling : ℕ) where
         (λ limit. refused))
         (λ idle. refused)
 
-    pop-by : (r : Tested) → tested q m t n ≡ r → Kept (with_thread w n (pop_tested t r).thread) c []
-    pop-by (Refuses r) e = refused
-    pop-by Passes e =
+    pop-by : (r : Result Unit Refusal) → tested q m t n ≡ r → Kept (with_thread w n (pop_tested t r).thread) c []
+    pop-by (Err r) e = refused
+    pop-by (Ok tt) e =
         cond_elim (λ (p : RingPopped). Kept (with_thread w n p.thread) c []) (is_idle t.call) _ _
         (λ idle.
         changed (after_pop t (popped t.ring)).thread e

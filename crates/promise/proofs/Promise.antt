@@ -1,4 +1,5 @@
 -- The promise of demand 3, first half.
+use Rattle.std.specs.Prelude.{Ok}
 use Prim.Native.Nat.{ℕ, ◌*◌, ◌%◌, ◌≤◌, ◌<◌}
 use mathlib.Core.Path.{◌≡◌, sym, subst}
 use mathlib.Core.Bool.{true}
@@ -13,7 +14,6 @@ use Rattle.ring.specs.declared.Flavor.{Flavor}
 use Rattle.state.specs.List.{counts_good, setup_good}
 use Rattle.state.specs.declared.Queue.{Queue}
 use Rattle.machine.specs.Entry.{tested}
-use Rattle.machine.specs.declared.Tested.TheVariants.{Passes}
 use Rattle.history.specs.Board.{Board, Ask, start, thread_at, asked}
 use Rattle.history.specs.Log.{Note}
 use Rattle.history.specs.History.{board, notes, asked_notes}
@@ -91,6 +91,6 @@ promised flavors blocks ceiling w counts fresh asks =
 
 -- what its `setup` and `good` are for: an entry for one of the threads passes 1, 2 and 3
 pub never_refused : (flavors : List Flavor) (ceiling : ℕ) (w : Board) (l : List Note) → Promise flavors ceiling w l
-    → (n : ℕ) → n < w.queue.threads → tested w.queue w.pool (thread_at w n) n ≡ Passes
+    → (n : ℕ) → n < w.queue.threads → tested w.queue w.pool (thread_at w n) n ≡ Ok tt
 unfolding tested
 never_refused flavors ceiling w l p n b = rw (p.setup, p.good n, lt-ltb n w.queue.threads b)

@@ -1,5 +1,6 @@
 -- The lines that the observer notes nothing of, but that a call ended: no ticket is pushed or claimed, and the call
 -- stays at its stage.
+use Rattle.std.specs.Prelude.{Option, None, Some}
 use Prim.Native.Nat.{ℕ, ◌+◌, ◌-◌}
 use mathlib.Core.Path.{◌≡◌, refl, sym, ap, ◌∙◌}
 use mathlib.Core.Bool.{Bool, true, false}
@@ -14,8 +15,6 @@ use Rattle.index.proofs.Tickets.{left-ticket}
 use Rattle.index.specs.declared.Index.{Index}
 use Rattle.memory.specs.Layout.{next, state, has}
 use Rattle.memory.specs.Pool.{pick}
-use Rattle.memory.specs.declared.MaybeBlock.{MaybeBlock}
-use Rattle.memory.specs.declared.MaybeBlock.TheVariants.{Nothing, Block}
 use Rattle.memory.specs.declared.Mark.TheVariants.{Write, Read, Destroy}
 use Rattle.state.specs.Move.{Move}
 use Rattle.state.specs.declared.Queue.{Queue}
@@ -60,7 +59,7 @@ module _ (tokens : List ℕ) (stage : Stage) (q : Queue) where
   -- ---- push, length and empty: nothing is claimed
 
   module _ (e : stage ≡ nothing) where
-    pub p2-quiet : (v : ℕ) (t : Index) (held : MaybeBlock) → QuietMove tokens stage q (p2 q v t held)
+    pub p2-quiet : (v : ℕ) (t : Index) (held : Option ℕ) → QuietMove tokens stage q (p2 q v t held)
     unfolding p2
     p2-quiet v t held =
         cond_elim (QuietMove tokens stage q) (eqb (offset (position t.raw)) 63) _ _ (λ a. still-on _ e)
@@ -68,26 +67,26 @@ module _ (tokens : List ℕ) (stage : Stage) (q : Queue) where
         cond_elim (QuietMove tokens stage q) (leb q.ceiling (lap (position t.raw))) _ _ (λ b. spent held)
         (λ b. cond_elim (QuietMove tokens stage q) (eqb (offset (position t.raw)) 62) _ _ (λ d. last held) (λ d. still-on _ e)))
       where
-        spent : (x : MaybeBlock) → QuietMove tokens stage q (p2_spent q x)
-        spent Nothing = still Idle (Refused Spent) (over-early tokens stage (Refused Spent) e refl tt)
-        spent (Block x) = still-on _ e
+        spent : (x : Option ℕ) → QuietMove tokens stage q (p2_spent q x)
+        spent None = still Idle (Refused Spent) (over-early tokens stage (Refused Spent) e refl tt)
+        spent (Some x) = still-on _ e
 
-        last : (x : MaybeBlock) → QuietMove tokens stage q (p2_last q v t x)
-        last Nothing = still-on _ e
-        last (Block x) = still-on _ e
+        last : (x : Option ℕ) → QuietMove tokens stage q (p2_last q v t x)
+        last None = still-on _ e
+        last (Some x) = still-on _ e
 
     pub p3-quiet : (m : List ℕ) (v : ℕ) (t : Index) (b : ℕ) → QuietMove tokens stage q (p3 q m v t b)
     unfolding p3
     p3-quiet m v t b = go (pick m q.blocks)
       where
-        go : (x : MaybeBlock) → QuietMove tokens stage q (p3_took q v t b x)
-        go Nothing = still Idle (Refused NoBlock) (over-early tokens stage (Refused NoBlock) e refl tt)
-        go (Block x) = still-on _ e
+        go : (x : Option ℕ) → QuietMove tokens stage q (p3_took q v t b x)
+        go None = still Idle (Refused NoBlock) (over-early tokens stage (Refused NoBlock) e refl tt)
+        go (Some x) = still-on _ e
 
-    pub p9-quiet : (m : List ℕ) (v : ℕ) (t : Index) (b : ℕ) (held : MaybeBlock) → QuietMove tokens stage q (p9 q m v t b held)
+    pub p9-quiet : (m : List ℕ) (v : ℕ) (t : Index) (b : ℕ) (held : Option ℕ) → QuietMove tokens stage q (p9 q m v t b held)
     unfolding p9
-    p9-quiet m v t b Nothing = still Idle Pushed (over-early tokens stage Pushed e refl tt)
-    p9-quiet m v t b (Block x) = still-on _ e
+    p9-quiet m v t b None = still Idle Pushed (over-early tokens stage Pushed e refl tt)
+    p9-quiet m v t b (Some x) = still-on _ e
 
     pub p10-quiet : (x : ℕ) (spent : Bool) → QuietMove tokens stage q (p10 q x spent)
     p10-quiet x true = still Idle (Refused Spent) (over-early tokens stage (Refused Spent) e refl tt)
@@ -128,9 +127,9 @@ module _ (tokens : List ℕ) (stage : Stage) (q : Queue) where
   unfolding s5
   s5-quiet m k c p = go (next m c.block)
     where
-      go : (x : MaybeBlock) → QuietMove tokens stage q (s5_next q k c x)
-      go Nothing = still-on _ p
-      go (Block x) = still-on _ p
+      go : (x : Option ℕ) → QuietMove tokens stage q (s5_next q k c x)
+      go None = still-on _ p
+      go (Some x) = still-on _ p
 
   pub s9-quiet : (m : List ℕ) (k : Kind) (c : Claim) (slot : ℕ) → At tokens stage (reading c) → QuietMove tokens stage q (s9 q m k c slot)
   unfolding s9

@@ -1,4 +1,5 @@
 -- What an observer sees of one line, its answer's note apart: fair notes, and a tally that agrees with the state.
+use Rattle.std.specs.Prelude.{Option, None, Some}
 use Prim.Native.Nat.{ℕ, suc, ◌+◌, ◌≤◌, ◌<◌}
 use mathlib.Core.Path.{◌≡◌, refl, sym, ap, ◌∙◌}
 use mathlib.Core.Bool.{Bool, true, false, cond}
@@ -12,8 +13,6 @@ use lib.Dec.{eqb}
 use borrow.Author.Tests.{eqb-true}
 use Rattle.index.specs.Claim.{advanced}
 use Rattle.index.specs.declared.Index.{Index}
-use Rattle.memory.specs.declared.MaybeBlock.{MaybeBlock}
-use Rattle.memory.specs.declared.MaybeBlock.TheVariants.{Nothing, Block}
 use Rattle.ring.specs.declared.Flavor.{Flavor}
 use Rattle.state.specs.Move.{Move, settled, settle}
 use Rattle.state.specs.declared.PushLine.TheVariants.{P4, P8}
@@ -76,11 +75,11 @@ module _ (flavors : List Flavor) (s : State) (n : ℕ) (t : Thread) (c : Tally) 
 
   -- ---- P4: the next ticket, with the call's own token
 
-  module _ (v : ℕ) (u : Index) (b : ℕ) (held : MaybeBlock) where
+  module _ (v : ℕ) (u : Index) (b : ℕ) (held : Option ℕ) where
     -- the line that a won P4 reaches knows its token
-    pushed-last : (s' : State) (x : MaybeBlock) → PushOk s' n (p4_last v u b x) → s'.ghost.pushed (tk u.raw) ≡ v
-    pushed-last s' Nothing p = p.owes.pushed
-    pushed-last s' (Block x) p = p.owes.pushed
+    pushed-last : (s' : State) (x : Option ℕ) → PushOk s' n (p4_last v u b x) → s'.ghost.pushed (tk u.raw) ≡ v
+    pushed-last s' None p = p.owes.pushed
+    pushed-last s' (Some x) p = p.owes.pushed
 
     pushed-token : (s' : State) (d : Bool) → PushOk s' n (cond d (p4_last v u b held) (P8 v u b held))
         → s'.ghost.pushed (tk u.raw) ≡ v

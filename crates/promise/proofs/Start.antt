@@ -1,4 +1,5 @@
 -- A fresh start has the invariant: block 0 serves lap 0, all others are free, and no call is open.
+use Rattle.std.specs.Prelude.{Some}
 use Prim.Native.Nat.{ℕ, ◌≤◌, ◌<◌}
 use mathlib.Core.Path.{◌≡◌, refl, sym, ap, subst, ◌∙◌}
 use mathlib.Core.Bool.{true}
@@ -11,7 +12,6 @@ use Rattle.memory.specs.Layout.{state, has}
 use Rattle.memory.specs.Pool.{fresh, pool_len}
 use Rattle.memory.specs.Laws.{length-fresh, has-none}
 use Rattle.memory.proofs.Apart.{fresh-state, fresh-next, fresh-used, fresh-free}
-use Rattle.memory.specs.declared.MaybeBlock.TheVariants.{Block}
 use Rattle.memory.specs.declared.Mark.{Mark}
 use Rattle.memory.specs.declared.Mark.TheVariants.{Write, Read, Destroy}
 use Rattle.ring.specs.declared.Flavor.{Flavor}
@@ -76,7 +76,7 @@ module _ (threads blocks ceiling : ℕ) (two : 2 ≤ blocks) where
   no_mark k b o h e =
       clash (has k (state first.pool b o)) e (ap (has k) (fresh-state (pool_len threads blocks) blocks b o h) ∙ has-none k)
 
-  no-next : {A : Type 0} (b x : ℕ) → nxt first b ≡ Block x → A
+  no-next : {A : Type 0} (b x : ℕ) → nxt first b ≡ Some x → A
   no-next b x e = let f = fresh-next (pool_len threads blocks) blocks b in apart (cc)
 
   front-last : (b l o : ℕ) → lap_of (own first b) ≡ some l → o < 63 → front (own first b) ≤ o → ⊥

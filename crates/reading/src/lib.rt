@@ -6,7 +6,8 @@ ghost use Rattle.state.specs.List.{steal_good};
 ghost use Rattle.machine.specs.Steal as spec;
 
 use index::BLOCK_CAP;
-use machine::steals::{first, past, to, walk_below};
+use machine::steals::{first, past, walk_below};
+use machine::to;
 use memory::Mark;
 use state::{Answer, Call, Claim, Kind, Made, Queue, StealLine, Stepped, Thread, Won};
 

@@ -1,4 +1,6 @@
 -- The lent words stay as many as they were, whatever is read; so every call that has room reads, and a text is read to its end.
+use Rattle.std.specs.Prelude.{Result, Ok, Err}
+use Rattle.state.specs.declared.Refusal.{Refusal}
 use Prim.Native.Nat.{ℕ, zero, suc, ◌*◌, ◌≤◌}
 use mathlib.Core.Path.{◌≡◌, refl, ◌∙◌}
 use mathlib.Core.Bool.{Bool, true, false, cond}
@@ -16,8 +18,6 @@ use Rattle.state.specs.declared.Queue.{Queue}
 use Rattle.state.specs.declared.Thread.{Thread}
 use Rattle.machine.specs.Step.{After, is_idle, is_open, step_of, counted, once, run_from}
 use Rattle.machine.specs.Entry.{tested, refused_after, step_tested, step_entry, run_tested, run_entry}
-use Rattle.machine.specs.declared.Tested.{Tested}
-use Rattle.machine.specs.declared.Tested.TheVariants.{Passes, Refuses}
 use Rattle.text.specs.declared.Command.{Command}
 use Rattle.replayed.specs.declared.Stage.{Stage}
 use Rattle.replayed.specs.declared.Stage.TheVariants.{First, Open, Over}
@@ -40,9 +40,9 @@ module _ (q : Queue) (m : List ℕ) (t : Thread) where
       idle true = refl
       idle false = length-after m (step_of q m t).touch
 
-      go : (x : Tested) → length (step_tested q m t x).pool ≡ length m
-      go (Refuses r) = refl
-      go Passes = idle (is_idle t.call)
+      go : (x : Result Unit Refusal) → length (step_tested q m t x).pool ≡ length m
+      go (Err r) = refl
+      go (Ok tt) = idle (is_idle t.call)
 
 from-kept : (budget : ℕ) (q : Queue) (m : List ℕ) (t : Thread) → length (run_from budget q m t).pool ≡ length m
 unfolding run_from
@@ -68,9 +68,9 @@ module _ (q : Queue) (m : List ℕ) (t : Thread) where
       idle true = refl
       idle false = from-kept budget q m t
 
-      go : (x : Tested) → length (run_tested q m t budget x).pool ≡ length m
-      go (Refuses r) = refl
-      go Passes = idle (is_idle t.call)
+      go : (x : Result Unit Refusal) → length (run_tested q m t budget x).pool ≡ length m
+      go (Err r) = refl
+      go (Ok tt) = idle (is_idle t.call)
 
   order-kept : (c : Command) → length (order_of q m t c).pool ≡ length m
   order-kept (Command.Queue x y z) = refl

@@ -1,4 +1,5 @@
 -- What a line is, by what the code asks of it, and the words that it lends.
+use Rattle.std.specs.Prelude.{Option, Some, None}
 use Prim.Native.Nat.{ℕ, ◌*◌, ◌≤◌, min}
 use mathlib.Core.Path.{◌≡◌, refl, sym, ap, ◌∙◌}
 use mathlib.Core.Bool.{Bool, true, false, ◌&&◌}
@@ -13,9 +14,6 @@ use Rattle.state.specs.ListLaws.{both}
 use Rattle.memory.specs.Pool.{fresh, pool_len}
 use Rattle.machine.specs.Entry.{set_up_pool}
 use Rattle.text.specs.declared.Command.{Command}
-use Rattle.text.specs.declared.Parsed.{Parsed}
-use Rattle.text.specs.declared.Parsed.TheVariants.{Good, Bad}
-use Rattle.replayed.specs.declared.Opening.{Opening}
 use Rattle.replayed.specs.declared.Replay.{Replay}
 use Rattle.replayed.specs.Command.{thread_number, order_of}
 use Rattle.replayed.specs.Replay.{Told, bad, queue_line, pool_of, pool_back, thread_of, ordered, first_line, later_line}
@@ -27,57 +25,57 @@ module _ (r : Replay) (m : List ℕ) where
   ordered_by c = ordered r m (thread_number c) (order_of r.queue (pool_of r m) (thread_of r (thread_number c)) c)
 
   -- what holds of a malformed line and of each command of a thread holds of every line after line 1
-  pub later_cases : (P : Parsed → Told → Type 0) → P Bad (bad r m) → ((x y z : ℕ) → P (Good (Command.Queue x y z)) (bad r m))
-      → ((c : Command) → is_queue c ≡ false → P (Good c) (ordered_by c)) → (p : Parsed) → P p (later_line r m p)
-  later_cases P b q o Bad = b
-  later_cases P b q o (Good (Command.Queue x y z)) = q x y z
-  later_cases P b q o (Good (Command.Push n token)) = o (Command.Push n token) refl
-  later_cases P b q o (Good (Command.Steal n)) = o (Command.Steal n) refl
-  later_cases P b q o (Good (Command.Batch n limit)) = o (Command.Batch n limit) refl
-  later_cases P b q o (Good (Command.Take n limit)) = o (Command.Take n limit) refl
-  later_cases P b q o (Good (Command.Len n)) = o (Command.Len n) refl
-  later_cases P b q o (Good (Command.Empty n)) = o (Command.Empty n) refl
-  later_cases P b q o (Good (Command.Pop n)) = o (Command.Pop n) refl
-  later_cases P b q o (Good (Command.Step n)) = o (Command.Step n) refl
-  later_cases P b q o (Good (Command.Run n budget)) = o (Command.Run n budget) refl
+  pub later_cases : (P : Option Command → Told → Type 0) → P None (bad r m) → ((x y z : ℕ) → P (Some (Command.Queue x y z)) (bad r m))
+      → ((c : Command) → is_queue c ≡ false → P (Some c) (ordered_by c)) → (p : Option Command) → P p (later_line r m p)
+  later_cases P b q o None = b
+  later_cases P b q o (Some (Command.Queue x y z)) = q x y z
+  later_cases P b q o (Some (Command.Push n token)) = o (Command.Push n token) refl
+  later_cases P b q o (Some (Command.Steal n)) = o (Command.Steal n) refl
+  later_cases P b q o (Some (Command.Batch n limit)) = o (Command.Batch n limit) refl
+  later_cases P b q o (Some (Command.Take n limit)) = o (Command.Take n limit) refl
+  later_cases P b q o (Some (Command.Len n)) = o (Command.Len n) refl
+  later_cases P b q o (Some (Command.Empty n)) = o (Command.Empty n) refl
+  later_cases P b q o (Some (Command.Pop n)) = o (Command.Pop n) refl
+  later_cases P b q o (Some (Command.Step n)) = o (Command.Step n) refl
+  later_cases P b q o (Some (Command.Run n budget)) = o (Command.Run n budget) refl
 
   -- and of line 1, what holds of a malformed line, of a queue line and of any other
-  pub first_cases : (P : Parsed → Told → Type 0) → P Bad (bad r m) → ((x y z : ℕ) → P (Good (Command.Queue x y z)) (queue_line r m x y z))
-      → ((c : Command) → opening_of (Good c) ≡ Opening.Bad → P (Good c) (bad r m)) → (p : Parsed) → P p (first_line r m p)
-  first_cases P b q o Bad = b
-  first_cases P b q o (Good (Command.Queue x y z)) = q x y z
-  first_cases P b q o (Good (Command.Push n token)) = o (Command.Push n token) refl
-  first_cases P b q o (Good (Command.Steal n)) = o (Command.Steal n) refl
-  first_cases P b q o (Good (Command.Batch n limit)) = o (Command.Batch n limit) refl
-  first_cases P b q o (Good (Command.Take n limit)) = o (Command.Take n limit) refl
-  first_cases P b q o (Good (Command.Len n)) = o (Command.Len n) refl
-  first_cases P b q o (Good (Command.Empty n)) = o (Command.Empty n) refl
-  first_cases P b q o (Good (Command.Pop n)) = o (Command.Pop n) refl
-  first_cases P b q o (Good (Command.Step n)) = o (Command.Step n) refl
-  first_cases P b q o (Good (Command.Run n budget)) = o (Command.Run n budget) refl
+  pub first_cases : (P : Option Command → Told → Type 0) → P None (bad r m) → ((x y z : ℕ) → P (Some (Command.Queue x y z)) (queue_line r m x y z))
+      → ((c : Command) → opening_of (Some c) ≡ None → P (Some c) (bad r m)) → (p : Option Command) → P p (first_line r m p)
+  first_cases P b q o None = b
+  first_cases P b q o (Some (Command.Queue x y z)) = q x y z
+  first_cases P b q o (Some (Command.Push n token)) = o (Command.Push n token) refl
+  first_cases P b q o (Some (Command.Steal n)) = o (Command.Steal n) refl
+  first_cases P b q o (Some (Command.Batch n limit)) = o (Command.Batch n limit) refl
+  first_cases P b q o (Some (Command.Take n limit)) = o (Command.Take n limit) refl
+  first_cases P b q o (Some (Command.Len n)) = o (Command.Len n) refl
+  first_cases P b q o (Some (Command.Empty n)) = o (Command.Empty n) refl
+  first_cases P b q o (Some (Command.Pop n)) = o (Command.Pop n) refl
+  first_cases P b q o (Some (Command.Step n)) = o (Command.Step n) refl
+  first_cases P b q o (Some (Command.Run n budget)) = o (Command.Run n budget) refl
 
-  pub later-good : (p : Parsed) {c : Command} → later_of p ≡ Good c → later_line r m p ≡ ordered_by c
+  pub later-good : (p : Option Command) {c : Command} → later_of p ≡ Some c → later_line r m p ≡ ordered_by c
   later-good p {c} =
-      later_cases (λ p t. later_of p ≡ Good c → t ≡ ordered_by c) (λ e. cc) (λ x y z e. cc)
-      (λ d q e. let same : d ≡ c = (let g : Good d ≡ Good c = rw q at e in cc) in ap ordered_by same)
+      later_cases (λ p t. later_of p ≡ Some c → t ≡ ordered_by c) (λ e. cc) (λ x y z e. cc)
+      (λ d q e. let same : d ≡ c = (let g : Some d ≡ Some c = rw q at e in cc) in ap ordered_by same)
       p
 
-  pub later-bad : (p : Parsed) → later_of p ≡ Bad → later_line r m p ≡ bad r m
+  pub later-bad : (p : Option Command) → later_of p ≡ None → later_line r m p ≡ bad r m
   later-bad p =
-      later_cases (λ p t. later_of p ≡ Bad → t ≡ bad r m) (λ e. refl) (λ x y z e. refl)
-      (λ d q e. let g : Good d ≡ Bad = rw q at e in cc)
+      later_cases (λ p t. later_of p ≡ None → t ≡ bad r m) (λ e. refl) (λ x y z e. refl)
+      (λ d q e. let g : Some d ≡ None = rw q at e in cc)
       p
 
-  pub opening_good : (p : Parsed) {x y z : ℕ} → opening_of p ≡ Opening.Queue x y z → first_line r m p ≡ queue_line r m x y z
+  pub opening_good : (p : Option Command) {x y z : ℕ} → opening_of p ≡ Some (x, y, z) → first_line r m p ≡ queue_line r m x y z
   opening_good p {x} {y} {z} =
-      first_cases (λ p t. opening_of p ≡ Opening.Queue x y z → t ≡ queue_line r m x y z) (λ e. cc)
+      first_cases (λ p t. opening_of p ≡ Some (x, y, z) → t ≡ queue_line r m x y z) (λ e. cc)
       (λ a b d e. let i : a ≡ x = cc in let j : b ≡ y = cc in let k : d ≡ z = cc in rw (i, j, k))
-      (λ c q e. let g : Opening.Bad ≡ Opening.Queue x y z = sym q ∙ e in cc)
+      (λ c q e. let g : None ≡ Some (x, y, z) = sym q ∙ e in cc)
       p
 
-  pub opening_bad : (p : Parsed) → opening_of p ≡ Opening.Bad → first_line r m p ≡ bad r m
+  pub opening_bad : (p : Option Command) → opening_of p ≡ None → first_line r m p ≡ bad r m
   opening_bad p =
-      first_cases (λ p t. opening_of p ≡ Opening.Bad → t ≡ bad r m) (λ e. refl) (λ x y z e. cc) (λ c q e. refl) p
+      first_cases (λ p t. opening_of p ≡ None → t ≡ bad r m) (λ e. refl) (λ x y z e. cc) (λ c q e. refl) p
 
 -- the words that are lent of the pool, and what they are put back into
 module _ (m : List ℕ) (n k : ℕ) (lent : k ≡ min n (length m)) where

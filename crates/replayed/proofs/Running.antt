@@ -1,4 +1,5 @@
 -- The replay after line 1, by its fields, and what a byte makes of it.
+use Rattle.std.specs.Prelude.{Some, None}
 use Prim.Native.Nat.{ℕ, zero, suc, ◌+◌, ◌-◌, ◌*◌, ◌≤◌, ◌<◌, min}
 use mathlib.Core.Path.{◌≡◌, refl, sym, ◌∙◌}
 use mathlib.Core.List.{List, [], ◌∷◌, ◌++◌}
@@ -12,7 +13,6 @@ use Rattle.state.specs.declared.Call.TheVariants.{Idle}
 use Rattle.state.specs.declared.Thread.{Thread}
 use Rattle.machine.specs.Entry.{idle_thread}
 use Rattle.text.specs.declared.Command.{Command}
-use Rattle.text.specs.declared.Parsed.TheVariants.{Good, Bad}
 use Rattle.text.specs.Print.{Wrote, bad_bytes, end_bytes}
 use Rattle.replayed.specs.declared.Stage.TheVariants.{Open}
 use Rattle.replayed.specs.declared.Replay.{Replay}
@@ -51,14 +51,14 @@ module _ (piece : List ℕ) (q : Queue) (t : List Thread) (l : List ℕ) (h n s 
   running_hold other = outcome-comes piece (running q t l h n s) m read out written inside refl room (byte-other (running q t l h n s) m (get_or piece read 0) other) (unwritten out written)
 
   module _ (feed : get_or piece read 0 ≡ 10) where
-    pub running-bad : {out2 : List ℕ} {written2 : ℕ} → later_of (line_as l h) ≡ Bad → Wrote out written (bad_bytes n ++ end_bytes s) out2 written2
+    pub running-bad : {out2 : List ℕ} {written2 : ℕ} → later_of (line_as l h) ≡ None → Wrote out written (bad_bytes n ++ end_bytes s) out2 written2
         → at (over (running q t l h n s)) m (length piece) out2 written2 ≡ outcome piece (running q t l h n s) m read out written
     running-bad {out2} {written2} e w =
         outcome-over piece (over (running q t l h n s)) m (read + 1) out2 written2 (omega arith) refl
         ∙ sym (outcome-comes piece (running q t l h n s) m read out written inside refl room (byte_feed (running q t l h n s) m (get_or piece read 0) feed ∙ later-bad (running q t l h n s) m (line_as l h) e) w)
 
     -- u is the record at place k
-    pub running-heard : (c : Command) → later_of (line_as l h) ≡ Good c → (k : ℕ) → k ≡ place_of (thread_number c)
+    pub running-heard : (c : Command) → later_of (line_as l h) ≡ Some c → (k : ℕ) → k ≡ place_of (thread_number c)
         → (u : Thread) → u ≡ get_or t k (idle_thread Fifo)
         → {q2 : Queue} {t2 : Thread} {s2 n2 : ℕ} {m2 out2 : List ℕ} {written2 : ℕ}
         → q2 ≡ (order_of q (take (q.blocks * 128) m) u c).done.queue

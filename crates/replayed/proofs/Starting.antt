@@ -1,4 +1,5 @@
 -- The replay at line 1, by its fields, and what a byte makes of it.
+use Rattle.std.specs.Prelude.{Option}
 use Prim.Native.Nat.{ℕ, ◌+◌, ◌-◌, ◌≤◌, ◌<◌, min}
 use mathlib.Core.Path.{◌≡◌, refl, ◌∙◌}
 use mathlib.Core.Bool.{Bool, true, false}
@@ -7,7 +8,6 @@ use lib.ListN.{length, get_or, set}
 use Rattle.state.specs.List.{counts_good}
 use Rattle.state.specs.declared.Queue.{Queue}
 use Rattle.state.specs.declared.Thread.{Thread}
-use Rattle.text.specs.declared.Parsed.{Parsed}
 use Rattle.text.specs.Print.{Wrote}
 use Rattle.replayed.specs.declared.Stage.TheVariants.{First}
 use Rattle.replayed.specs.declared.Replay.{Replay}
@@ -51,5 +51,5 @@ module _ (r : Replay) (m : List ℕ) where
       go true e = rw e
       go false e = rw e
 
-  pub past_first : (p : Parsed) → is_first (first_line r m p).replay.stage ≡ false
+  pub past_first : (p : Option Command) → is_first (first_line r m p).replay.stage ≡ false
   past_first = first_cases r m (λ p t. is_first t.replay.stage ≡ false) refl past-queue (λ c e. refl)

@@ -1,5 +1,5 @@
 -- What a command makes of the machine, and what the replay says of it.
-use Rattle.std.specs.Prelude.{ℕ, List, []}
+use Rattle.std.specs.Prelude.{Option, Some, None, Result, Ok, Err, ℕ, List, []}
 use Rattle.state.specs.Answers.{number}
 use Rattle.state.specs.declared.Queue.{Queue}
 use Rattle.state.specs.declared.Thread.{Thread}
@@ -8,9 +8,7 @@ use Rattle.state.specs.declared.Refusal.{Refusal}
 use Rattle.machine.specs.Step.{After}
 use Rattle.machine.specs.Entry.{step_entry, run_entry, begin_entry, pop_entry}
 use Rattle.machine.specs.declared.Request.{Request}
-use Rattle.machine.specs.declared.Began.{Began}
 use Rattle.machine.specs.declared.Begun.{Begun}
-use Rattle.machine.specs.declared.Popped.{Popped}
 use Rattle.machine.specs.declared.RingPopped.{RingPopped}
 use Rattle.text.specs.declared.Command.{Command}
 use Rattle.text.specs.declared.Word.{Word}
@@ -36,14 +34,14 @@ answer_said still Answer.No = Plain Word.No
 answer_said still (Answer.Refused r) = refused_said r
 
 -- an accepted begin says nothing
-abbrev pub began_said : Began → Said
-began_said Began.Open = Silent
-began_said (Began.Refused r) = refused_said r
+abbrev pub began_said : Result Unit Refusal → Said
+began_said (Ok tt) = Silent
+began_said (Err r) = refused_said r
 
-abbrev pub popped_said : Popped → Said
-popped_said (Popped.Task token) = Numbered Word.Task token
-popped_said Popped.Nothing = Plain Word.Nothing
-popped_said (Popped.Refused r) = refused_said r
+abbrev pub popped_said : Result (Option ℕ) Refusal → Said
+popped_said (Ok (Some token)) = Numbered Word.Task token
+popped_said (Ok None) = Plain Word.Nothing
+popped_said (Err r) = refused_said r
 
 -- what a command of one thread gives, and the lent words after it
 pub record Ordered : Type 0 where

@@ -1,12 +1,9 @@
 -- A piece of the text is fed, and what it makes is written into a lent buffer: how much of the piece is read, and what
 -- comes of it.
-use Rattle.std.specs.Prelude.{ℕ, suc, ◌+◌, ◌-◌, ◌≤◌, ◌≡◌, Bool, true, false, cond, List, [], ◌∷◌, length, take, drop, leb}
+use Rattle.std.specs.Prelude.{ℕ, suc, ◌+◌, ◌-◌, ◌≤◌, ◌≡◌, Bool, true, false, cond, List, [], ◌∷◌, length, take, drop, leb, Option, Some, None}
 use Rattle.std.proofs.lemmas.List.Edits.{sets}
 use Rattle.text.specs.declared.Command.{Command}
-use Rattle.text.specs.declared.Parsed.{Parsed}
-use Rattle.text.specs.declared.Parsed.TheVariants.{Good, Bad}
 use Rattle.replayed.specs.declared.Fed.{Fed}
-use Rattle.replayed.specs.declared.Opening.{Opening}
 use Rattle.replayed.specs.declared.Stage.{Stage}
 use Rattle.replayed.specs.declared.Stage.TheVariants.{First, Open, Over}
 use Rattle.replayed.specs.declared.Replay.{Replay}
@@ -86,20 +83,20 @@ is_queue (Command.Pop n) = false
 is_queue (Command.Step n) = false
 is_queue (Command.Run n budget) = false
 
-abbrev pub later_of : Parsed → Parsed
-later_of Bad = Bad
-later_of (Good c) = cond (is_queue c) Bad (Good c)
+abbrev pub later_of : Option Command → Option Command
+later_of None = None
+later_of (Some c) = cond (is_queue c) None (Some c)
 
 -- line 1: the queue line, or malformed
-abbrev pub opening_of : Parsed → Opening
-opening_of Bad = Opening.Bad
-opening_of (Good (Command.Queue threads blocks ceiling)) = Opening.Queue threads blocks ceiling
-opening_of (Good (Command.Push n token)) = Opening.Bad
-opening_of (Good (Command.Steal n)) = Opening.Bad
-opening_of (Good (Command.Batch n limit)) = Opening.Bad
-opening_of (Good (Command.Take n limit)) = Opening.Bad
-opening_of (Good (Command.Len n)) = Opening.Bad
-opening_of (Good (Command.Empty n)) = Opening.Bad
-opening_of (Good (Command.Pop n)) = Opening.Bad
-opening_of (Good (Command.Step n)) = Opening.Bad
-opening_of (Good (Command.Run n budget)) = Opening.Bad
+abbrev pub opening_of : Option Command → Option (ℕ × ℕ × ℕ)
+opening_of None = None
+opening_of (Some (Command.Queue threads blocks ceiling)) = Some (threads, blocks, ceiling)
+opening_of (Some (Command.Push n token)) = None
+opening_of (Some (Command.Steal n)) = None
+opening_of (Some (Command.Batch n limit)) = None
+opening_of (Some (Command.Take n limit)) = None
+opening_of (Some (Command.Len n)) = None
+opening_of (Some (Command.Empty n)) = None
+opening_of (Some (Command.Pop n)) = None
+opening_of (Some (Command.Step n)) = None
+opening_of (Some (Command.Run n budget)) = None

@@ -1,6 +1,6 @@
 -- The whole replay, from the input's bytes to the output's bytes: a machine that takes one byte after another, so
 -- that no cut of the text can matter.
-use Rattle.std.specs.Prelude.{ℕ, ◌+◌, min, cond, List, [], ◌∷◌, ◌++◌, length, get_or, set, take, drop, replicate, ltb, leb, eqb}
+use Rattle.std.specs.Prelude.{ℕ, ◌+◌, min, cond, List, [], ◌∷◌, ◌++◌, length, get_or, set, take, drop, replicate, ltb, leb, eqb, Option, Some, None}
 use Rattle.ring.specs.declared.Flavor.TheVariants.{Fifo}
 use Rattle.memory.specs.Pool.{fresh, pool_len}
 use Rattle.state.specs.List.{counts_good}
@@ -11,8 +11,6 @@ use Rattle.machine.specs.declared.Request.{Request}
 use Rattle.text.specs.Line.{parsed}
 use Rattle.text.specs.Print.{bad_bytes, refused_bytes, end_bytes, queue_bytes}
 use Rattle.text.specs.declared.Command.{Command}
-use Rattle.text.specs.declared.Parsed.{Parsed}
-use Rattle.text.specs.declared.Parsed.TheVariants.{Good, Bad}
 use Rattle.replayed.specs.declared.Stage.{Stage}
 use Rattle.replayed.specs.declared.Stage.TheVariants.{First, Open, Over}
 use Rattle.replayed.specs.declared.Replay.{Replay}
@@ -154,19 +152,19 @@ later_command r m (Command.Pop n) = ordered r m n (pops r.queue (pool_of r m) (t
 later_command r m (Command.Step n) = ordered r m n (steps_one r.queue (pool_of r m) (thread_of r n) n)
 later_command r m (Command.Run n budget) = ordered r m n (runs r.queue (pool_of r m) (thread_of r n) n budget)
 
-abbrev pub first_line : Replay → List ℕ → Parsed → Told
-first_line r m (Good c) = first_command r m c
-first_line r m Bad = bad r m
+abbrev pub first_line : Replay → List ℕ → Option Command → Told
+first_line r m (Some c) = first_command r m c
+first_line r m None = bad r m
 
-abbrev pub later_line : Replay → List ℕ → Parsed → Told
-later_line r m (Good c) = later_command r m c
-later_line r m Bad = bad r m
+abbrev pub later_line : Replay → List ℕ → Option Command → Told
+later_line r m (Some c) = later_command r m c
+later_line r m None = bad r m
 
 -- the line that was held, of at most 80 bytes
-abbrev pub line_as : List ℕ → ℕ → Parsed
-line_as line held = cond (leb held 80) (parsed (take held line)) Bad
+abbrev pub line_as : List ℕ → ℕ → Option Command
+line_as line held = cond (leb held 80) (parsed (take held line)) None
 
-abbrev pub line_of : Replay → Parsed
+abbrev pub line_of : Replay → Option Command
 line_of r = line_as r.line r.held
 
 -- a line feed

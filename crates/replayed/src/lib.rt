@@ -57,10 +57,3 @@ pub struct Heard {
     pub steps: u64,
     pub written: usize,
 }
-
-// What line 1 asks for.
-#[derive(Clone, Copy)]
-pub enum Opening {
-    Queue(u64, u64, u64),
-    Bad,
-}

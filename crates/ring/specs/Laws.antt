@@ -1,6 +1,6 @@
 -- What a ring holds after a batch entered and after its owner popped, as a list with the oldest first.
 use Prim.Native.Nat.{ℕ, suc, ◌+◌, ◌-◌, ◌≤◌, ◌<◌}
-use Rattle.std.specs.Prelude.{◌≡◌, Bool, true, false, cond, take, drop, get_or, eqb}
+use Rattle.std.specs.Prelude.{Some, None, ◌≡◌, Bool, true, false, cond, take, drop, get_or, eqb}
 use Rattle.std.proofs.Math.Path.{refl, ap}
 use Rattle.std.proofs.Common.{sym, ◌∙◌, ⊎_elim, le_of_suc-le-suc, eq-or-lt_of_le, length-append, length-drop, length-take-le, take_at, take-take, get_or-take, get_or-drop, eq-eqb, ne_eqb, eqb-true}
 use mathlib.Core.List.{List, [], ◌∷◌, ◌++◌, reverse, reverse-cons}
@@ -12,7 +12,6 @@ use Rattle.std.proofs.Math.Seq.{slice, paste, length-sets, length-slice, take-le
 use Rattle.ring.specs.declared.Flavor.{Flavor}
 use Rattle.ring.specs.declared.Flavor.TheVariants.{Fifo, Lifo}
 use Rattle.ring.specs.declared.Ring.{Ring}
-use Rattle.ring.specs.declared.Pop.TheVariants.{Task, Nothing}
 use Rattle.ring.specs.Ring.{contents, in_order, place_of, entered, shifted, pop_some, popped}
 
 -- ---- a batch, in the order in which it enters
@@ -83,7 +82,7 @@ module _ (r : Ring) (batch : List ℕ) (first end : ℕ) where
 
 -- ---- the owner pops
 
-pub popped-zero : (r : Ring) → r.count ≡ 0 → popped r ≡ record { ring = r; token = Nothing }
+pub popped-zero : (r : Ring) → r.count ≡ 0 → popped r ≡ record { ring = r; token = None }
 unfolding popped
 popped-zero r none = rw (eq-eqb r.count 0 none)
 
@@ -105,7 +104,7 @@ some-less r Fifo = record { fewer = refl; same = refl; sized = shifted-sized r.t
 some-less r Lifo = record { fewer = refl; same = refl; sized = λ h. h }
 
 less : (r : Ring) (b : Bool) → (b ≡ true → r.count ≡ 0)
-    → OneLess r (cond b (record { ring = r; token = Nothing }) (pop_some r r.flavor)).ring
+    → OneLess r (cond b (record { ring = r; token = None }) (pop_some r r.flavor)).ring
 less r true none = let z : r.count ≡ 0 = none refl in record { fewer = omega arith; same = refl; sized = λ h. h }
 less r false none = some-less r r.flavor
 
@@ -121,11 +120,11 @@ module _ (r : Ring) (sized : length r.tokens ≡ 64) (held : r.count ≤ 64) whe
   pub length-contents : length (contents r) ≡ r.count
   length-contents = length-take-le r.count r.tokens (omega arith)
 
-  pub popped-none : contents r ≡ [] → popped r ≡ record { ring = r; token = Nothing }
+  pub popped-none : contents r ≡ [] → popped r ≡ record { ring = r; token = None }
   popped-none e = popped-zero r (sym length-contents ∙ ap length e)
 
   pub popped_oldest : (x : ℕ) (xs : List ℕ) → r.flavor ≡ Fifo → contents r ≡ x ∷ xs
-      → ((popped r).token ≡ Task x) × (contents (popped r).ring ≡ xs)
+      → ((popped r).token ≡ Some x) × (contents (popped r).ring ≡ xs)
   popped_oldest x xs fifo e =
       let n : suc (length xs) ≡ r.count = ap length (sym e) ∙ length-contents in
       let p : popped r ≡ pop_some r Fifo = popped-some r (omega arith) ∙ ap (pop_some r) fifo in
@@ -134,7 +133,7 @@ module _ (r : Ring) (sized : length r.tokens ≡ 64) (held : r.count ≤ 64) whe
       in
       let one : suc (r.count - 1) ≡ r.count = omega arith in
       let under : r.count - 1 ≤ length (drop 1 r.tokens) = simp length-drop (omega arith) in (
-        rw p (ap Task oldest),
+        rw p (ap Some oldest),
         rw p
             (take-append-le (r.count - 1) (drop 1 r.tokens) (drop 63 r.tokens) under
             ∙ take-drop-one (r.count - 1) r.tokens
@@ -143,7 +142,7 @@ module _ (r : Ring) (sized : length r.tokens ≡ 64) (held : r.count ≤ 64) whe
       )
 
   pub popped_newest : (xs : List ℕ) (x : ℕ) → r.flavor ≡ Lifo → contents r ≡ xs ++ (x ∷ [])
-      → ((popped r).token ≡ Task x) × (contents (popped r).ring ≡ xs)
+      → ((popped r).token ≡ Some x) × (contents (popped r).ring ≡ xs)
   popped_newest xs x lifo e =
       let n : length xs + 1 ≡ r.count = sym (length-append xs (x ∷ [])) ∙ ap length (sym e) ∙ length-contents in
       let p : popped r ≡ pop_some r Lifo = popped-some r (omega arith) ∙ ap (pop_some r) lifo in
@@ -153,7 +152,7 @@ module _ (r : Ring) (sized : length r.tokens ≡ 64) (held : r.count ≤ 64) whe
       ∙ ap (λ (l : List ℕ). get_or l (r.count - 1) 0) e
       ∙ get_or_at xs x [] 0 (r.count - 1) before
       in (
-        rw p (ap Task newest),
+        rw p (ap Some newest),
         rw p
             (sym (take-take (r.count - 1) r.count r.tokens (omega arith))
             ∙ ap (take (r.count - 1)) e

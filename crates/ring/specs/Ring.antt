@@ -1,11 +1,10 @@
 -- A thread's own ring of 64 tokens: the oldest at 0. Cells past the count hold whatever was left there.
-use Rattle.std.specs.Prelude.{ℕ, ◌+◌, ◌-◌, cond, List, ◌++◌, reverse, get_or, take, drop, replicate, eqb}
+use Rattle.std.specs.Prelude.{Some, None, ℕ, ◌+◌, ◌-◌, cond, List, ◌++◌, reverse, get_or, take, drop, replicate, eqb}
 use Rattle.std.proofs.lemmas.List.Edits.{sets}
 use Rattle.std.proofs.Math.Seq.{slice}
 use Rattle.ring.specs.declared.Flavor.{Flavor}
 use Rattle.ring.specs.declared.Flavor.TheVariants.{Fifo, Lifo}
 use Rattle.ring.specs.declared.Ring.{Ring}
-use Rattle.ring.specs.declared.Pop.TheVariants.{Task, Nothing}
 use Rattle.ring.specs.declared.RingPop.{RingPop}
 
 -- the tokens that the ring holds, the oldest first
@@ -43,13 +42,13 @@ abbrev pub pop_some : Ring → Flavor → RingPop
 pop_some r Fifo =
     record {
       ring = record { tokens = shifted r.tokens; count = r.count - 1; flavor = r.flavor };
-      token = Task (get_or r.tokens 0 0);
+      token = Some (get_or r.tokens 0 0);
     }
 pop_some r Lifo =
     record {
       ring = record { tokens = r.tokens; count = r.count - 1; flavor = r.flavor };
-      token = Task (get_or r.tokens (r.count - 1) 0);
+      token = Some (get_or r.tokens (r.count - 1) 0);
     }
 
 unfoldable pub popped : Ring → RingPop
-popped r = cond (eqb r.count 0) (record { ring = r; token = Nothing }) (pop_some r r.flavor)
+popped r = cond (eqb r.count 0) (record { ring = r; token = None }) (pop_some r r.flavor)

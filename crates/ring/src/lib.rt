@@ -20,15 +20,9 @@ pub struct Ring {
 }
 
 #[derive(Clone, Copy)]
-pub enum Pop {
-    Task(u64),
-    Nothing,
-}
-
-#[derive(Clone, Copy)]
 pub struct RingPop {
     pub ring: Ring,
-    pub token: Pop,
+    pub token: Option<u64>,
 }
 
 fn shift(tokens: [u64; 64]) -> [u64; 64]
@@ -92,7 +86,7 @@ impl Ring {
         if count == 0 {
             return RingPop {
                 ring: self,
-                token: Pop::Nothing,
+                token: None,
             };
         }
         let left = count - 1;
@@ -106,7 +100,7 @@ impl Ring {
                         count: left,
                         flavor,
                     },
-                    token: Pop::Task(oldest),
+                    token: Some(oldest),
                 }
             }
             Flavor::Lifo => {
@@ -117,7 +111,7 @@ impl Ring {
                         count: left,
                         flavor,
                     },
-                    token: Pop::Task(newest),
+                    token: Some(newest),
                 }
             }
         }

@@ -1,4 +1,5 @@
 -- The loop of a run: `used` steps are made, and what is left of the budget runs from where the thread stands now.
+use Rattle.std.specs.Prelude.{Ok}
 use Prim.Native.Nat.{ℕ, suc, ◌+◌, ◌-◌, ◌<◌, ◌≤◌}
 use mathlib.Core.Path.{◌≡◌, refl, sym, ap, ◌∙◌}
 use mathlib.Core.Bool.{Bool, true, false, ◌&&◌}
@@ -15,7 +16,6 @@ use Rattle.state.specs.declared.Answer.TheVariants.{Open}
 use Rattle.state.specs.declared.Thread.{Thread}
 use Rattle.state.specs.declared.Stepped.{Stepped}
 use Rattle.wait.specs.declared.Wait.{Wait}
-use Rattle.machine.specs.declared.Tested.TheVariants.{Passes}
 use Rattle.machine.specs.Entry.{tested, run_entry}
 use Rattle.machine.specs.Step.{After, is_idle, is_open, step_of, done, counted, run_from}
 use Rattle.wait.specs.Wait.{wait_of, waits, waited_call}
@@ -131,6 +131,6 @@ module _ (all : After) (budget used : ℕ) (q : Queue) (m : List ℕ) (t : Threa
 -- ---- what run gives back, once its tests passed
 
 module _ (q : Queue) (m : List ℕ) (t : Thread) (n budget : ℕ) where
-  pub run-made : tested q m t n ≡ Passes → is_idle t.call ≡ false → run_entry q m t n budget ≡ run_from budget q m t
+  pub run-made : tested q m t n ≡ Ok tt → is_idle t.call ≡ false → run_entry q m t n budget ≡ run_from budget q m t
   unfolding run_entry
   run-made passes i = rw (passes, i)

@@ -1,5 +1,6 @@
 -- What a step from a good record leaves as it is: the counts that the queue was set up with, the length of the lent
 -- words, and that every next is good. So a run need not look at the pool again after each of its steps.
+use Rattle.std.specs.Prelude.{Option, None, Some}
 use Prim.Native.Nat.{ℕ, zero, suc, ◌+◌, ◌*◌, ◌-◌, ◌<◌, ◌≤◌}
 use mathlib.Core.Path.{◌≡◌, refl, sym, ap, subst}
 use mathlib.Core.Bool.{Bool, true, false, cond, ◌&&◌}
@@ -16,8 +17,6 @@ use Rattle.memory.specs.Touch.{Touch, leaves, writes_token, writes_state, links,
 use Rattle.memory.specs.Pool.{pool_len, pick}
 use Rattle.memory.specs.Laws.{Room, length-after, next-linked, next-cleared}
 use Rattle.memory.proofs.Apart.{next-writes_token, next-writes_state, next-links, next-frees, next-clears}
-use Rattle.memory.specs.declared.MaybeBlock.{MaybeBlock}
-use Rattle.memory.specs.declared.MaybeBlock.TheVariants.{Nothing, Block}
 use Rattle.memory.specs.declared.Mark.TheVariants.{Write, Read, Destroy}
 use Rattle.state.specs.Move.{Move}
 use Rattle.state.specs.List.{counts_good, setup_good, block_good, held_good, next_good, nexts_good, slot_good, push_good, claim_good, in_claim, steal_good, call_good, record_good}
@@ -61,20 +60,20 @@ Mild n (clears b) = Unit
 
 module _ (m : List ℕ) (n b : ℕ) where
   -- a next that is as good as another
-  like : (x y : MaybeBlock) → x ≡ y → next_good n y ≡ true → next_good n x ≡ true
-  like x y e g = subst (λ (k : MaybeBlock). next_good n k ≡ true) (sym e) g
+  like : (x y : Option ℕ) → x ≡ y → next_good n y ≡ true → next_good n x ≡ true
+  like x y e g = subst (λ (k : Option ℕ). next_good n k ≡ true) (sym e) g
 
   links-good : (a x : ℕ) → Dec (b ≡ a) → x < n → Room m b → next_good n (next m b) ≡ true → next_good n (next (after m (links a x)) b) ≡ true
   links-good a x (yes e) h r g =
-      like (next (after m (links a x)) b) (Block x)
-      (subst (λ (k : ℕ). next (after m (links k x)) b ≡ Block x) e (next-linked m b x r))
+      like (next (after m (links a x)) b) (Some x)
+      (subst (λ (k : ℕ). next (after m (links k x)) b ≡ Some x) e (next-linked m b x r))
       (lt-ltb x n h)
   links-good a x (no d) h r g = like (next (after m (links a x)) b) (next m b) (next-links m a x b d) g
 
   clears-good : (a : ℕ) → Dec (b ≡ a) → next_good n (next m b) ≡ true → next_good n (next (after m (clears a)) b) ≡ true
   clears-good a (yes e) g =
-      like (next (after m (clears a)) b) Nothing
-      (subst (λ (k : ℕ). next (after m (clears k)) b ≡ Nothing) e (next-cleared m b))
+      like (next (after m (clears a)) b) None
+      (subst (λ (k : ℕ). next (after m (clears k)) b ≡ None) e (next-cleared m b))
       refl
   clears-good a (no d) g = like (next (after m (clears a)) b) (next m b) (next-clears m a b d) g
 
@@ -125,23 +124,23 @@ module _ (q : Queue) where
   plain : {call : Call} {answer : Answer} → TameMove q (record { made = record { queue = q; call = call; answer = answer }; touch = leaves })
   plain = only leaves tt
 
-  spent-tame : (held : MaybeBlock) → TameMove q (p2_spent q held)
-  spent-tame Nothing = plain
-  spent-tame (Block x) = plain
+  spent-tame : (held : Option ℕ) → TameMove q (p2_spent q held)
+  spent-tame None = plain
+  spent-tame (Some x) = plain
 
-  last-tame : (token : ℕ) (t : Index) (held : MaybeBlock) → TameMove q (p2_last q token t held)
-  last-tame token t Nothing = plain
-  last-tame token t (Block x) = plain
+  last-tame : (token : ℕ) (t : Index) (held : Option ℕ) → TameMove q (p2_last q token t held)
+  last-tame token t None = plain
+  last-tame token t (Some x) = plain
 
-  took-tame : (token : ℕ) (t : Index) (b : ℕ) (picked : MaybeBlock) → TameMove q (p3_took q token t b picked)
-  took-tame token t b Nothing = plain
-  took-tame token t b (Block x) = only (clears x) tt
+  took-tame : (token : ℕ) (t : Index) (b : ℕ) (picked : Option ℕ) → TameMove q (p3_took q token t b picked)
+  took-tame token t b None = plain
+  took-tame token t b (Some x) = only (clears x) tt
 
-  ends-tame : (held : MaybeBlock) (touch : Touch) → Mild q.blocks touch → TameMove q (p9_ends q held touch)
-  ends-tame Nothing touch h = only touch h
-  ends-tame (Block x) touch h = only touch h
+  ends-tame : (held : Option ℕ) (touch : Touch) → Mild q.blocks touch → TameMove q (p9_ends q held touch)
+  ends-tame None touch h = only touch h
+  ends-tame (Some x) touch h = only touch h
 
-  inside : (t : Index) (b : ℕ) (held : MaybeBlock) → (slot_good q t && block_good q b && held_good q held) ≡ true → offset (position t.raw) < 63
+  inside : (t : Index) (b : ℕ) (held : Option ℕ) → (slot_good q t && block_good q b && held_good q held) ≡ true → offset (position t.raw) < 63
   inside t b held e = (slot q t (both (slot_good q t) (block_good q b) (both (slot_good q t && block_good q b) (held_good q held) e).0).0).inside
 
   push-tame : (m : List ℕ) (line : PushLine) → push_good q line ≡ true → TameMove q (push q m line)
@@ -160,9 +159,9 @@ module _ (q : Queue) where
   push-tame m (P9 token t b held) e = ends-tame held _ (inside t b held e)
   push-tame m (P10 x spent) e = only (frees x) tt
 
-  next-tame : (k : Kind) (c : Claim) (x : MaybeBlock) → TameMove q (s5_next q k c x)
-  next-tame k c Nothing = plain
-  next-tame k c (Block x) = plain
+  next-tame : (k : Kind) (c : Claim) (x : Option ℕ) → TameMove q (s5_next q k c x)
+  next-tame k c None = plain
+  next-tame k c (Some x) = plain
 
   s2-tame : (k : Kind) (h : Index) → TameMove q (s2 q k h)
   unfolding s2

@@ -1,4 +1,5 @@
 -- A run from a line where the call can only wait: every step stays there, or goes to the other line and back.
+use Rattle.std.specs.Prelude.{Option, None, Some}
 use Prim.Native.Nat.{ℕ, zero, suc, ◌+◌, ◌*◌, ◌%◌}
 use mathlib.Core.Path.{◌≡◌, refl, ap, ap₂, ◌∙◌, subst}
 use mathlib.Core.Bool.{Bool, true, false, cond, ◌&&◌}
@@ -10,8 +11,6 @@ use lib.Dec.{leb, eqb}
 use Rattle.index.specs.Position.{position, offset}
 use Rattle.memory.specs.Layout.{state, next, has}
 use Rattle.memory.specs.Touch.{leaves, after}
-use Rattle.memory.specs.declared.MaybeBlock.{MaybeBlock}
-use Rattle.memory.specs.declared.MaybeBlock.TheVariants.{Nothing, Block}
 use Rattle.memory.specs.declared.Mark.TheVariants.{Write}
 use Rattle.state.specs.Move.{Move, Step, on, with_call, settled}
 use Rattle.state.specs.List.{block_good, loaded_good, shared_good, nexts_good, held_good, push_good, open_good, steal_good, call_good, record_good, state_good}
@@ -113,7 +112,7 @@ head_loaded q e =
     (both (blocks && leb (position q.tail.raw) (q.ceiling * 64)) (loaded_good q q.head) e).1
 
 module _ (q : Queue) (m : List ℕ) where
-  p1_turns : (token : ℕ) (held : MaybeBlock) → eqb (offset (position q.tail.raw)) 63 ≡ true → Turning q m (Push (P1 token held)) (Push (P2 token q.tail held))
+  p1_turns : (token : ℕ) (held : Option ℕ) → eqb (offset (position q.tail.raw)) 63 ≡ true → Turning q m (Push (P1 token held)) (Push (P2 token q.tail held))
   unfolding p2 push_good
   p1_turns token held e = record {
     out = λ t. refl;
@@ -142,10 +141,10 @@ module _ (q : Queue) (m : List ℕ) where
   turns_says call other true f = f refl
   turns_says call other false f = tt
 
-  s5-says : (k : Kind) (c : Claim) (x : MaybeBlock) → next m c.block ≡ x → Says (Steal (S5 k c)) (none_waits x)
+  s5-says : (k : Kind) (c : Claim) (x : Option ℕ) → next m c.block ≡ x → Says (Steal (S5 k c)) (none_waits x)
   unfolding s5
-  s5-says k c Nothing e = λ t. ap (λ (x : MaybeBlock). settled t (s5_next q k c x)) e
-  s5-says k c (Block x) e = tt
+  s5-says k c None e = λ t. ap (λ (x : Option ℕ). settled t (s5_next q k c x)) e
+  s5-says k c (Some x) e = tt
 
   s9-says : (k : Kind) (c : Claim) (slot : ℕ) (b : Bool) → has Write (state m c.block slot) ≡ b → Says (Steal (S9 k c slot)) (cond b No Stays)
   unfolding s9

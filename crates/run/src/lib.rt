@@ -12,7 +12,7 @@ ghost use Rattle.machine.specs.Entry.{run_entry};
 use advance::advance;
 use entry::test_open;
 use going::goes_on;
-use machine::{Ran, Tested};
+use machine::Ran;
 use ran::refused;
 use state::{Answer, Queue, Thread};
 
@@ -83,7 +83,7 @@ pub fn run(q: Queue, pool: &mut [u64], thread: Thread, number: u64, budget: u64)
     ensures pool_after { pool.new ≡ (run_entry q pool.old thread number budget).pool }
 {
     let tested = test_open(q, pool, thread, number);
-    if let Tested::Refuses(refusal) = tested {
+    if let Err(refusal) = tested {
         return refused(q, thread, refusal);
     }
     go(q, pool, thread, budget)

@@ -2,7 +2,7 @@
 // is missing shows where the output is compared.
 #![tactic(auto)]
 
-use state::{Answer, Refusal, refusal_number};
+use state::{Answer, Refusal};
 use std::io::{Print, Stdout};
 
 pub fn text(out: Stdout, bytes: &[u8]) {
@@ -29,7 +29,7 @@ pub fn numbered_line(out: Stdout, word: &[u8], n: u64) {
 }
 
 pub fn refused(out: Stdout, refusal: Refusal) {
-    numbered(out, b" -> refused ", refusal_number(refusal));
+    numbered(out, b" -> refused ", u64::from(refusal));
 }
 
 pub fn answer(out: Stdout, answer: Answer) {

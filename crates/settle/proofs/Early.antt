@@ -1,5 +1,6 @@
 -- What a step makes of a call, as far as early calls go: it leaves the early lines, or is nearer to leaving them, or was
 -- past them before; and then it moves the tail or the head only if that waited at offset 63.
+use Rattle.std.specs.Prelude.{Option, None, Some}
 use Prim.Native.Nat.{ℕ, ◌+◌, ◌<◌}
 use mathlib.Core.Path.{◌≡◌, refl, sym, ◌∙◌}
 use mathlib.Core.Bool.{Bool, true, false, cond}
@@ -7,8 +8,6 @@ use mathlib.Core.List.{List}
 use native.Mathlib.Omega.{arith}
 use lib.Dec.{eqb, leb}
 use borrow.Author.Tests.{eq-eqb, eqb-true}
-use Rattle.memory.specs.declared.MaybeBlock.{MaybeBlock}
-use Rattle.memory.specs.declared.MaybeBlock.TheVariants.{Nothing, Block}
 use Rattle.memory.specs.Layout.{state, next, has}
 use Rattle.memory.specs.Pool.{pick}
 use Rattle.memory.specs.declared.Mark.TheVariants.{Write, Read, Destroy}
@@ -83,7 +82,7 @@ cond-less false x y u v p q = q
 -- ---- push
 
 module _ (q : Queue) (m : List ℕ) (v : ℕ) where
-  p2-went : (t : Index) (held : MaybeBlock) → Goes q (Push (P2 v t held)) (p2 q v t held)
+  p2-went : (t : Index) (held : Option ℕ) → Goes q (Push (P2 v t held)) (p2 q v t held)
   unfolding p2
   p2-went t held =
       cond_elim (Goes q (Push (P2 v t held))) (eqb (off t.raw) 63) _ _
@@ -100,28 +99,28 @@ module _ (q : Queue) (m : List ℕ) (v : ℕ) where
           (λ f. let g : q.tail.raw ≡ t.raw = eqb-true _ _ f in clash (eqb (off t.raw) 63) e (rw g at b))
           (λ f. omega arith)
 
-      spent : (x : MaybeBlock) → Goes q (Push (P2 v t held)) (p2_spent q x)
-      spent Nothing = left refl refl
-      spent (Block x) = left refl refl
+      spent : (x : Option ℕ) → Goes q (Push (P2 v t held)) (p2_spent q x)
+      spent None = left refl refl
+      spent (Some x) = left refl refl
 
-      last : (x : MaybeBlock) → Goes q (Push (P2 v t held)) (p2_last q v t x)
-      last Nothing = goes-again q (Push (P2 v t held)) (Push (P3 v t q.tail_block)) refl refl refl refl (λ b. cond-less (eqb q.tail.raw t.raw) 2 5 3 6 (omega arith) (omega arith))
-      last (Block x) =
-          goes-again q (Push (P2 v t held)) (Push (P4 v t q.tail_block (Block x))) refl refl refl refl (λ b. cond-less (eqb q.tail.raw t.raw) 1 4 3 6 (omega arith) (omega arith))
+      last : (x : Option ℕ) → Goes q (Push (P2 v t held)) (p2_last q v t x)
+      last None = goes-again q (Push (P2 v t held)) (Push (P3 v t q.tail_block)) refl refl refl refl (λ b. cond-less (eqb q.tail.raw t.raw) 2 5 3 6 (omega arith) (omega arith))
+      last (Some x) =
+          goes-again q (Push (P2 v t held)) (Push (P4 v t q.tail_block (Some x))) refl refl refl refl (λ b. cond-less (eqb q.tail.raw t.raw) 1 4 3 6 (omega arith) (omega arith))
 
   p3-went : (t : Index) (b : ℕ) → Goes q (Push (P3 v t b)) (p3 q m v t b)
   unfolding p3
   p3-went t b = go (pick m q.blocks)
     where
-      go : (x : MaybeBlock) → Goes q (Push (P3 v t b)) (p3_took q v t b x)
-      go Nothing = left refl refl
-      go (Block x) = goes-again q (Push (P3 v t b)) (Push (P4 v t b (Block x))) refl refl refl refl (λ e. cond-less (eqb q.tail.raw t.raw) 1 4 2 5 (omega arith) (omega arith))
+      go : (x : Option ℕ) → Goes q (Push (P3 v t b)) (p3_took q v t b x)
+      go None = left refl refl
+      go (Some x) = goes-again q (Push (P3 v t b)) (Push (P4 v t b (Some x))) refl refl refl refl (λ e. cond-less (eqb q.tail.raw t.raw) 1 4 2 5 (omega arith) (omega arith))
 
-  last-late : (t : Index) (b : ℕ) (held : MaybeBlock) → early_push (p4_last v t b held) ≡ false
-  last-late t b Nothing = refl
-  last-late t b (Block x) = refl
+  last-late : (t : Index) (b : ℕ) (held : Option ℕ) → early_push (p4_last v t b held) ≡ false
+  last-late t b None = refl
+  last-late t b (Some x) = refl
 
-  p4-went : (t : Index) (b : ℕ) (held : MaybeBlock) → Goes q (Push (P4 v t b held)) (p4 q v t b held)
+  p4-went : (t : Index) (b : ℕ) (held : Option ℕ) → Goes q (Push (P4 v t b held)) (p4 q v t b held)
   unfolding p4
   p4-went t b held =
       cond_elim (Goes q (Push (P4 v t b held))) (eqb q.tail.raw t.raw) _ _
@@ -131,10 +130,10 @@ module _ (q : Queue) (m : List ℕ) (v : ℕ) where
       goes-again q (Push (P4 v t b held)) (Push (P2 v q.tail held)) refl refl refl refl
       (λ f. rw (e, eq-eqb q.tail.raw q.tail.raw refl) (omega arith)))
 
-  p9-went : (t : Index) (b : ℕ) (held : MaybeBlock) → Goes q (Push (P9 v t b held)) (p9 q m v t b held)
+  p9-went : (t : Index) (b : ℕ) (held : Option ℕ) → Goes q (Push (P9 v t b held)) (p9 q m v t b held)
   unfolding p9
-  p9-went t b Nothing = on-past q (Push (P9 v t b Nothing)) Idle refl refl refl
-  p9-went t b (Block x) = on-past q (Push (P9 v t b (Block x))) (Push (P10 x false)) refl refl refl
+  p9-went t b None = on-past q (Push (P9 v t b None)) Idle refl refl refl
+  p9-went t b (Some x) = on-past q (Push (P9 v t b (Some x))) (Push (P10 x false)) refl refl refl
 
 module _ (s : State) (i : ℕ) where
   push-went : (line : PushLine) → PushOk s i line → Goes s.queue (Push line) (push s.queue s.pool line)
@@ -149,7 +148,7 @@ module _ (s : State) (i : ℕ) where
       let e : T s ≡ t.raw + 2 = p.installs.tail in
       let o : off t.raw ≡ 62 = p.installs.last in
       further (record { late = refl; stays = refl; tail = λ n. absurd (n (omega arith)); head = λ n. refl; links = λ n e. e })
-  push-went (P7 v t b x) p = on-past s.queue (Push (P7 v t b x)) (Push (P8 v t b Nothing)) refl refl refl
+  push-went (P7 v t b x) p = on-past s.queue (Push (P7 v t b x)) (Push (P8 v t b None)) refl refl refl
   push-went (P8 v t b held) p = on-past s.queue (Push (P8 v t b held)) (Push (P9 v t b held)) refl refl refl
   push-went (P9 v t b held) p = p9-went s.queue s.pool v t b held
   push-went (P10 x spent) p = on-past s.queue (Push (P10 x spent)) Idle refl refl refl
@@ -194,9 +193,9 @@ module _ (q : Queue) (m : List ℕ) where
   unfolding s5
   s5-went k c = go (next m c.block)
     where
-      go : (x : MaybeBlock) → Goes q (Steal (S5 k c)) (s5_next q k c x)
-      go Nothing = on-late (S5 k c) (S5 k c) refl refl
-      go (Block x) = on-late (S5 k c) (S6 k c x) refl refl
+      go : (x : Option ℕ) → Goes q (Steal (S5 k c)) (s5_next q k c x)
+      go None = on-late (S5 k c) (S5 k c) refl refl
+      go (Some x) = on-late (S5 k c) (S6 k c x) refl refl
 
   s9-went : (k : Kind) (c : Claim) (slot : ℕ) → Goes q (Steal (S9 k c slot)) (s9 q m k c slot)
   unfolding s9

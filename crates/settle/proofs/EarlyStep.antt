@@ -1,5 +1,6 @@
 -- The early lemma: a step of any open call takes a call out of the early ones, or leaves the rank of thread x no
 -- higher; the key's step lowers it, and while it stays the key stays.
+use Rattle.std.specs.Prelude.{Option, None, Some}
 use Prim.Native.Nat.{ℕ, ◌+◌, ◌*◌, ◌≤◌, ◌<◌}
 use mathlib.Core.Path.{◌≡◌, refl, sym, ap, subst, ◌∙◌}
 use mathlib.Core.Bool.{Bool, true, false, cond}
@@ -12,8 +13,6 @@ use Rattle.index.specs.Position.{position}
 use Rattle.index.specs.Claim.{advanced, left_lap}
 use Rattle.index.specs.Laws.{left-lap, advanced-position}
 use Rattle.memory.specs.Layout.{next}
-use Rattle.memory.specs.declared.MaybeBlock.{MaybeBlock}
-use Rattle.memory.specs.declared.MaybeBlock.TheVariants.{Nothing, Block}
 use Rattle.state.specs.declared.Queue.{Queue}
 use Rattle.state.specs.declared.Kind.{Kind}
 use Rattle.state.specs.declared.Claim.{Claim}
@@ -240,7 +239,7 @@ module _ (s : State) (calls : ℕ → Call) (j : ℕ) (t : Thread) (q' : Queue) 
 
   -- a thief at S5 finds the next block: its push does not link it any more
   linked : (k : Kind) (c : Claim) → calls j ≡ Steal (S5 k c)
-      → ((i : ℕ) → links (calls i) ≡ some (63 * lp c.head.raw + 62) → ⊥) → nxt s c.block ≡ Nothing → ⊥
+      → ((i : ℕ) → links (calls i) ≡ some (63 * lp c.head.raw + 62) → ⊥) → nxt s c.block ≡ None → ⊥
   linked k c at f g =
       let one : off c.head.raw + c.advance ≡ 63 = line.ended in
       let below : tk c.head.raw + c.advance ≤ nc s = line.claims.below in
@@ -256,9 +255,9 @@ module _ (s : State) (calls : ℕ → Call) (j : ℕ) (t : Thread) (q' : Queue) 
   unfolding s5
   s5-next x k c e at f = go (next s.pool c.block) refl (rw at at own)
     where
-      go : (n : MaybeBlock) → next s.pool c.block ≡ n → calls' j ≡ (s5_next s.queue k c n).made.call → Next calls j q' calls' x 9 j
-      go Nothing g h = absurd (linked k c at f g)
-      go (Block y) g h = leave_to x 9 (Steal (S6 k c y)) e h refl (λ n z. none-some n z) (omega arith)
+      go : (n : Option ℕ) → next s.pool c.block ≡ n → calls' j ≡ (s5_next s.queue k c n).made.call → Next calls j q' calls' x 9 j
+      go None g h = absurd (linked k c at f g)
+      go (Some y) g h = leave_to x 9 (Steal (S6 k c y)) e h refl (λ n z. none-some n z) (omega arith)
 
   head-key : (x : ℕ) → at_head (calls' x) ≡ true → (c : Call) → calls j ≡ c
       → ((n : ℕ) → awaits c ≡ some n → (i : ℕ) → links (calls i) ≡ some n → ⊥) → Leaving c → Next calls j q' calls' x (leave_rank c) j
@@ -330,7 +329,7 @@ module _ (s : State) (calls : ℕ → Call) (j : ℕ) (t : Thread) (q' : Queue) 
     link-key c at a l (in5 v u b y d) = link-step 12 (Push (P6 v u b y)) (rw at at own) (ap some d) (omega arith) a
     link-key c at a l (in6 v u b y d) = link-step 11 (Push (P7 v u b y)) (rw at at own) (ap some d) (omega arith) a
     link-key c at a l (in7 v u b y d) =
-        let next-call : calls' j ≡ Push (P8 v u b Nothing) = rw at at own in
+        let next-call : calls' j ≡ Push (P8 v u b None) = rw at at own in
         moves-on a (λ i. nobody l (λ z. none-some n (sym (ap links next-call) ∙ z)) i (ℕ_discrete i j))
 
   -- the thief itself looks again: it is still at S5, or has found the link
@@ -343,9 +342,9 @@ module _ (s : State) (calls : ℕ → Call) (j : ℕ) (t : Thread) (q' : Queue) 
   unfolding s5
   looks n a = by (calls j) refl (awaiting n (calls j) a)
     where
-      go : (k : Kind) (f : Claim) → 63 * lp f.head.raw + 62 ≡ n → (y : MaybeBlock) → calls' j ≡ (s5_next s.queue k f y).made.call → Looks j n
-      go k f z Nothing h = inl (ap awaits h ∙ ap some z)
-      go k f z (Block y) h = inr (ap leaves h, ap leave_rank h, λ l g. none-some l (sym (ap awaits h) ∙ g))
+      go : (k : Kind) (f : Claim) → 63 * lp f.head.raw + 62 ≡ n → (y : Option ℕ) → calls' j ≡ (s5_next s.queue k f y).made.call → Looks j n
+      go k f z None h = inl (ap awaits h ∙ ap some z)
+      go k f z (Some y) h = inr (ap leaves h, ap leave_rank h, λ l g. none-some l (sym (ap awaits h) ∙ g))
 
       by : (c : Call) → calls j ≡ c → Awaiting n c → Looks j n
       by c at (waits k f z) = go k f z (next s.pool f.block) (rw at at own)

@@ -1,4 +1,6 @@
 -- No step changes the counts that setup was given, and no entry the number of records.
+use Rattle.std.specs.Prelude.{Option, None, Some, Result, Ok, Err}
+use Rattle.state.specs.declared.Refusal.{Refusal}
 use Prim.Native.Nat.{ℕ, zero, suc, ◌+◌}
 use mathlib.Core.Path.{◌≡◌, refl, ◌∙◌}
 use mathlib.Core.Bool.{Bool, true, false, cond}
@@ -10,8 +12,6 @@ use Rattle.index.specs.declared.Index.{Index}
 use Rattle.memory.specs.Layout.{state, next, has}
 use Rattle.memory.specs.Touch.{Touch}
 use Rattle.memory.specs.Pool.{pick}
-use Rattle.memory.specs.declared.MaybeBlock.{MaybeBlock}
-use Rattle.memory.specs.declared.MaybeBlock.TheVariants.{Nothing, Block}
 use Rattle.memory.specs.declared.Mark.TheVariants.{Write, Read, Destroy}
 use Rattle.ring.specs.declared.Flavor.{Flavor}
 use Rattle.state.specs.List.{counts_good, state_good}
@@ -36,8 +36,6 @@ use Rattle.machine.specs.Steal.{steal, s2, s3, s4, s5, s5_next, s9, s10, s11, s1
 use Rattle.machine.specs.Count.{l3, e2}
 use Rattle.machine.specs.Step.{After, step_at, step_of, once, counted, run_from, is_idle, is_open}
 use Rattle.machine.specs.Entry.{idle_thread, tested, step_tested, step_entry, run_tested, run_entry}
-use Rattle.machine.specs.declared.Tested.{Tested}
-use Rattle.machine.specs.declared.Tested.TheVariants.{Passes, Refuses}
 use Rattle.history.specs.Board.{Board, Ask, begins, pops, steps, runs, start, thread_at, asked}
 use Rattle.history.specs.History.{board}
 use Rattle.invariant.proofs.Facts.{cond_elim}
@@ -57,21 +55,21 @@ module _ (q : Queue) (m : List ℕ) where
   abbrev Keeps : Move → Type 0
   Keeps move = Same q move.made.queue
 
-  spent : (held : MaybeBlock) → Keeps (p2_spent q held)
-  spent Nothing = same_queue q
-  spent (Block x) = same_queue q
+  spent : (held : Option ℕ) → Keeps (p2_spent q held)
+  spent None = same_queue q
+  spent (Some x) = same_queue q
 
-  last : (v : ℕ) (t : Index) (held : MaybeBlock) → Keeps (p2_last q v t held)
-  last v t Nothing = same_queue q
-  last v t (Block x) = same_queue q
+  last : (v : ℕ) (t : Index) (held : Option ℕ) → Keeps (p2_last q v t held)
+  last v t None = same_queue q
+  last v t (Some x) = same_queue q
 
-  took : (v : ℕ) (t : Index) (b : ℕ) (x : MaybeBlock) → Keeps (p3_took q v t b x)
-  took v t b Nothing = same_queue q
-  took v t b (Block x) = same_queue q
+  took : (v : ℕ) (t : Index) (b : ℕ) (x : Option ℕ) → Keeps (p3_took q v t b x)
+  took v t b None = same_queue q
+  took v t b (Some x) = same_queue q
 
-  ended : (held : MaybeBlock) (touch : Touch) → Keeps (p9_ends q held touch)
-  ended Nothing touch = same_queue q
-  ended (Block x) touch = same_queue q
+  ended : (held : Option ℕ) (touch : Touch) → Keeps (p9_ends q held touch)
+  ended None touch = same_queue q
+  ended (Some x) touch = same_queue q
 
   push-same : (line : PushLine) → Keeps (push q m line)
   unfolding p2 p3 p4 p9
@@ -107,9 +105,9 @@ module _ (q : Queue) (m : List ℕ) where
   empty-same (E2 h) =
       cond_elim Keeps (eqb (position h.raw) (position q.tail.raw)) _ _ (λ e. same_queue q) (λ e. same_queue q)
 
-  linked : (k : Kind) (c : Claim) (x : MaybeBlock) → Keeps (s5_next q k c x)
-  linked k c Nothing = same_queue q
-  linked k c (Block x) = same_queue q
+  linked : (k : Kind) (c : Claim) (x : Option ℕ) → Keeps (s5_next q k c x)
+  linked k c None = same_queue q
+  linked k c (Some x) = same_queue q
 
   module _ (t : Thread) where
     abbrev Leaves : Step → Type 0
@@ -183,16 +181,16 @@ module _ (w : Board) (f : Fit w) where
         records = rw (length-set w.threads n t, s.threads) f.records;
       }
 
-  stepped_same : (n : ℕ) (r : Tested) → Same w.queue (step_tested w.queue w.pool (thread_at w n) r).ran.queue
-  stepped_same n (Refuses r) = same_queue w.queue
-  stepped_same n Passes =
+  stepped_same : (n : ℕ) (r : Result Unit Refusal) → Same w.queue (step_tested w.queue w.pool (thread_at w n) r).ran.queue
+  stepped_same n (Err r) = same_queue w.queue
+  stepped_same n (Ok tt) =
       cond_elim (λ (a : After). Same w.queue a.ran.queue) (is_idle (thread_at w n).call) _ _
       (λ e. same_queue w.queue)
       (λ e. step_same w.queue w.pool (thread_at w n))
 
-  ran-same : (n budget : ℕ) (r : Tested) → Same w.queue (run_tested w.queue w.pool (thread_at w n) budget r).ran.queue
-  ran-same n budget (Refuses r) = same_queue w.queue
-  ran-same n budget Passes =
+  ran-same : (n budget : ℕ) (r : Result Unit Refusal) → Same w.queue (run_tested w.queue w.pool (thread_at w n) budget r).ran.queue
+  ran-same n budget (Err r) = same_queue w.queue
+  ran-same n budget (Ok tt) =
       cond_elim (λ (a : After). Same w.queue a.ran.queue) (is_idle (thread_at w n).call) _ _
       (λ e. same_queue w.queue)
       (λ e. run-same budget w.queue w.pool (thread_at w n))

@@ -1,4 +1,5 @@
 -- A step of a late call ends it or leaves it late with fewer lines to make, or the call waits for a push.
+use Rattle.std.specs.Prelude.{Option, None, Some}
 use Prim.Native.Nat.{ℕ, ◌+◌, ◌<◌}
 use mathlib.Core.Path.{◌≡◌, refl}
 use mathlib.Core.Bool.{Bool, true, false, cond}
@@ -9,8 +10,6 @@ use lib.Dec.{eqb}
 use borrow.Author.Tests.{eqb-true, eqb-false}
 use Rattle.index.specs.declared.Index.{Index}
 use Rattle.memory.specs.Layout.{state, has}
-use Rattle.memory.specs.declared.MaybeBlock.{MaybeBlock}
-use Rattle.memory.specs.declared.MaybeBlock.TheVariants.{Nothing, Block}
 use Rattle.memory.specs.declared.Mark.TheVariants.{Write, Read, Destroy}
 use Rattle.memory.specs.Touch.{Touch}
 use Rattle.state.specs.Move.{Move}
@@ -47,9 +46,9 @@ pub record Falls (old new : Call) : Type 0 where
 -- ---- pushes never wait
 
 module _ (q : Queue) (m : List ℕ) where
-  ends-late : (v : ℕ) (t : Index) (b : ℕ) (held : MaybeBlock) (touch : Touch) → Falls (Push (P9 v t b held)) (p9_ends q held touch).made.call
-  ends-late v t b Nothing touch = record { calm = refl; less = omega arith; kind = λ e. clash true refl e }
-  ends-late v t b (Block x) touch = record { calm = refl; less = omega arith; kind = λ e. clash true refl e }
+  ends-late : (v : ℕ) (t : Index) (b : ℕ) (held : Option ℕ) (touch : Touch) → Falls (Push (P9 v t b held)) (p9_ends q held touch).made.call
+  ends-late v t b None touch = record { calm = refl; less = omega arith; kind = λ e. clash true refl e }
+  ends-late v t b (Some x) touch = record { calm = refl; less = omega arith; kind = λ e. clash true refl e }
 
   pub push-late : (line : PushLine) → is_late_push line ≡ true → Falls (Push line) (push q m line).made.call
   unfolding p9
@@ -90,9 +89,9 @@ module _ (s : State) (i count : ℕ) (taken : List ℕ) (t : Thread) where
   abbrev Moves : StealLine → Call → Type 0
   Moves line new = Falls (Steal line) new ⊎ ((new ≡ Steal line) × StealWaits s line)
 
-  s5-late : (k : Kind) (c : Claim) (x : MaybeBlock) → nxt s c.block ≡ x → Moves (S5 k c) (s5_next s.queue k c x).made.call
-  s5-late k c Nothing e = inr (refl, e)
-  s5-late k c (Block x) e = inl (record { calm = refl; less = omega arith; kind = λ g. refl })
+  s5-late : (k : Kind) (c : Claim) (x : Option ℕ) → nxt s c.block ≡ x → Moves (S5 k c) (s5_next s.queue k c x).made.call
+  s5-late k c None e = inr (refl, e)
+  s5-late k c (Some x) e = inl (record { calm = refl; less = omega arith; kind = λ g. refl })
 
   steal-late : (line : StealLine) → StealOk s i count taken line → is_late (Steal line) ≡ true
       → Moves line (steal s.queue s.pool t line).stepped.thread.call

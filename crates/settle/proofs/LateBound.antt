@@ -1,4 +1,5 @@
 -- How many lines a late call can have left, and why no thief waits when no push is open.
+use Rattle.std.specs.Prelude.{Option, None, Some}
 use Prim.Native.Nat.{ℕ, ◌+◌, ◌*◌, ◌-◌, ◌≤◌, ◌<◌}
 use mathlib.Core.Path.{◌≡◌, refl}
 use mathlib.Core.Bool.{true, false}
@@ -9,8 +10,6 @@ use lib.Dec.{eqb}
 use borrow.Author.Tests.{eqb-true, eqb-false}
 use Rattle.index.specs.Position.{position}
 use Rattle.index.proofs.Tickets.{ticket_mono}
-use Rattle.memory.specs.declared.MaybeBlock.{MaybeBlock}
-use Rattle.memory.specs.declared.MaybeBlock.TheVariants.{Nothing, Block}
 use Rattle.state.specs.declared.Kind.{Kind}
 use Rattle.state.specs.declared.Claim.{Claim}
 use Rattle.state.specs.declared.PushLine.{PushLine}
@@ -31,9 +30,9 @@ use Rattle.settle.specs.Late.{late, late_push, marks, gives_back, is_push, Steal
 
 -- ---- at most 5 lines of a push, and 187 of a thief
 
-gives_one : (held : MaybeBlock) → gives_back held ≤ 1
-gives_one Nothing = omega arith
-gives_one (Block x) = omega arith
+gives_one : (held : Option ℕ) → gives_back held ≤ 1
+gives_one None = omega arith
+gives_one (Some x) = omega arith
 
 pub push_bound : (line : PushLine) → late_push line ≤ 5
 push_bound (P1 v held) = omega arith
@@ -124,7 +123,7 @@ module _ (s : State) (calls : ℕ → Call) (h : Shared s) (owed : Owed s calls)
   claimed-pushed : nc s ≤ np s
   claimed-pushed = ticket_mono (position (H s)) (position (T s)) h.order
 
-  linked : (i count : ℕ) (k : Kind) (c : Claim) → Leaves s i k count c.head.raw c.block c.advance → nxt s c.block ≡ Nothing → ⊥
+  linked : (i count : ℕ) (k : Kind) (c : Claim) → Leaves s i k count c.head.raw c.block c.advance → nxt s c.block ≡ None → ⊥
   linked i count k c p e =
       let below : tk c.head.raw + c.advance ≤ nc s = p.claims.below in
       let ended : off c.head.raw + c.advance ≡ 63 = p.ended in

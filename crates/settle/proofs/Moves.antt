@@ -1,5 +1,6 @@
 -- What a step does to a whole board: an open call's step is never refused, it changes the shared words, the pool and
 -- its own thread's record as `step_of` says, and nothing else.
+use Rattle.std.specs.Prelude.{Result, Ok, Err}
 use Prim.Native.Nat.{ℕ, ◌≤◌, ◌<◌}
 use mathlib.Core.Path.{◌≡◌, refl, ap, ◌∙◌}
 use mathlib.Core.Bool.{Bool, true, false, not, cond}
@@ -19,8 +20,6 @@ use Rattle.state.specs.declared.Refusal.{Refusal}
 use Rattle.state.specs.declared.Thread.{Thread}
 use Rattle.machine.specs.Step.{step_of, once, is_idle}
 use Rattle.machine.specs.Entry.{idle_thread, tested, refused_after, step_tested, step_entry}
-use Rattle.machine.specs.declared.Tested.{Tested}
-use Rattle.machine.specs.declared.Tested.TheVariants.{Passes, Refuses}
 use Rattle.history.specs.Board.{Board, steps, thread_at, ran, with_thread, asked}
 use Rattle.invariant.proofs.Facts.{clash, true-or-false}
 use Rattle.invariant.proofs.Good.{both, good}
@@ -81,7 +80,7 @@ past-idle w n f b =
 
 -- ---- an entry for one of the threads passes its tests
 
-pub passes : (w : Board) (n : ℕ) → Whole w → Fit w → n < w.queue.threads → tested w.queue w.pool (thread_at w n) n ≡ Passes
+pub passes : (w : Board) (n : ℕ) → Whole w → Fit w → n < w.queue.threads → tested w.queue w.pool (thread_at w n) n ≡ Ok tt
 unfolding tested setup_good
 passes w n h f b =
     let setup = both f.counts (eq-eqb (length w.pool) (pool_len w.queue.threads w.queue.blocks) h.shared.sized) in
@@ -91,7 +90,7 @@ passes w n h f b =
 pub step_moves : (w : Board) (n : ℕ) → Whole w → Fit w → n < w.queue.threads → is_open_at w n ≡ true → asked w (steps n) ≡ step_board w n
 unfolding step_entry
 step_moves w n h f b e =
-    ap (λ (r : Tested). ran w n (step_tested w.queue w.pool (thread_at w n) r)) (passes w n h f b)
+    ap (λ (r : Result Unit Refusal). ran w n (step_tested w.queue w.pool (thread_at w n) r)) (passes w n h f b)
     ∙ ap (λ (i : Bool). ran w n (cond i (refused_after w.queue w.pool (thread_at w n) Refusal.Idle) (once w.pool (step_of w.queue w.pool (thread_at w n))))) (open_call w n e)
 
 -- a thread stored back as it was
@@ -104,9 +103,9 @@ pub idle-step : (w : Board) (n : ℕ) → is_open_at w n ≡ false → asked w (
 unfolding step_entry
 idle-step w n e = by (tested w.queue w.pool (thread_at w n) n)
   where
-    by : (r : Tested) → ran w n (step_tested w.queue w.pool (thread_at w n) r) ≡ w
-    by (Refuses r) = same-board w n
-    by Passes =
+    by : (r : Result Unit Refusal) → ran w n (step_tested w.queue w.pool (thread_at w n) r) ≡ w
+    by (Err r) = same-board w n
+    by (Ok tt) =
         ap (λ (i : Bool). ran w n (cond i (refused_after w.queue w.pool (thread_at w n) Refusal.Idle) (once w.pool (step_of w.queue w.pool (thread_at w n))))) (idle-call w n e)
         ∙ same-board w n
 

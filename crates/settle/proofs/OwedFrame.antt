@@ -1,11 +1,11 @@
 -- What is owed, across a step of thread i: a conjunct names another thread, whose call stays, or i itself.
+use Rattle.std.specs.Prelude.{None}
 use Prim.Native.Nat.{ℕ, ◌+◌, ◌*◌, ◌-◌, ◌≤◌, ◌<◌}
 use mathlib.Core.Path.{◌≡◌, sym, ap, ◌∙◌}
 use mathlib.Core.Bool.{true, false}
 use mathlib.Core.Logic.{◌⊎◌, inl, inr, ⊎_elim}
 use mathlib.Core.List.{List}
 use native.Mathlib.Omega.{arith}
-use Rattle.memory.specs.declared.MaybeBlock.TheVariants.{Nothing}
 use Rattle.state.specs.declared.Claim.{Claim}
 use Rattle.state.specs.declared.StealLine.{StealLine}
 use Rattle.state.specs.declared.StealLine.TheVariants.{S1, S2, S3, S4, S5, S6, S7, S8, S9, S10, S11, S12, S13, S14}
@@ -125,7 +125,7 @@ pub record PushSame (s s' : State) : Type 0 where
   pub held : (b j : ℕ) → own s' b ≡ Held j → own s b ≡ Held j
   pub laps : (b l : ℕ) → lap_of (own s' b) ≡ some l → lap_of (own s b) ≡ some l
   pub wrote : (b l o : ℕ) → lap_of (own s' b) ≡ some l → o < 63 → W s' b o ≡ false → W s b o ≡ false
-  pub nexts : (b l : ℕ) → lap_of (own s' b) ≡ some l → nxt s' b ≡ Nothing → nxt s b ≡ Nothing
+  pub nexts : (b l : ℕ) → lap_of (own s' b) ≡ some l → nxt s' b ≡ None → nxt s b ≡ None
 
 pub record TakeSame (s s' : State) : Type 0 where
   pub head : H s' ≡ H s

@@ -1,4 +1,5 @@
 -- The lines that change neither the shared state nor the ghost nor a view of their thread.
+use Rattle.std.specs.Prelude.{Option, None, Some}
 use Prim.Native.Nat.{ℕ, ◌+◌, ◌*◌, ◌-◌}
 use mathlib.Core.Path.{◌≡◌, refl, ◌∙◌}
 use mathlib.Core.Bool.{Bool, true}
@@ -7,8 +8,6 @@ use native.Mathlib.Omega.{arith}
 use lib.Dec.{eqb, leb}
 use Rattle.index.specs.Position.{position, has_next}
 use Rattle.index.specs.declared.Index.{Index}
-use Rattle.memory.specs.declared.MaybeBlock.{MaybeBlock}
-use Rattle.memory.specs.declared.MaybeBlock.TheVariants.{Nothing, Block}
 use Rattle.state.specs.Move.{Move}
 use Rattle.state.specs.declared.Kind.{Kind}
 use Rattle.state.specs.declared.Claim.{Claim}
@@ -48,21 +47,21 @@ module _ (s : State) (calls : ℕ → Call) (i : ℕ) (owed : Owed s calls) wher
 
   -- ---- push
 
-  pub p1-owed : (v : ℕ) (held : MaybeBlock) → calls i ≡ Push (P1 v held) → Goes (p1 s.queue v held)
+  pub p1-owed : (v : ℕ) (held : Option ℕ) → calls i ≡ Push (P1 v held) → Goes (p1 s.queue v held)
   p1-owed v held at = stays (Push (P1 v held)) (Push (P2 v s.queue.tail held)) at (same-push (Push (P1 v held))) (same-take s Idle)
 
   module _ (v : ℕ) (t : Index) where
-    spent-owed : (held : MaybeBlock) → calls i ≡ Push (P2 v t held) → Goes (p2_spent s.queue held)
-    spent-owed Nothing at = stays (Push (P2 v t Nothing)) Idle at (same-push Idle) (same-take s Idle)
-    spent-owed (Block x) at =
-        stays (Push (P2 v t (Block x))) (Push (P10 x true)) at (same-push (Push (P10 x true))) (same-take s Idle)
+    spent-owed : (held : Option ℕ) → calls i ≡ Push (P2 v t held) → Goes (p2_spent s.queue held)
+    spent-owed None at = stays (Push (P2 v t None)) Idle at (same-push Idle) (same-take s Idle)
+    spent-owed (Some x) at =
+        stays (Push (P2 v t (Some x))) (Push (P10 x true)) at (same-push (Push (P10 x true))) (same-take s Idle)
 
-    last-owed : (held : MaybeBlock) → calls i ≡ Push (P2 v t held) → Goes (p2_last s.queue v t held)
-    last-owed Nothing at = stays (Push (P2 v t Nothing)) (Push (P3 v t (TB s))) at (same-push Idle) (same-take s Idle)
-    last-owed (Block x) at =
-        stays (Push (P2 v t (Block x))) (Push (P4 v t (TB s) (Block x))) at (same-push (Push (P10 x true))) (same-take s Idle)
+    last-owed : (held : Option ℕ) → calls i ≡ Push (P2 v t held) → Goes (p2_last s.queue v t held)
+    last-owed None at = stays (Push (P2 v t None)) (Push (P3 v t (TB s))) at (same-push Idle) (same-take s Idle)
+    last-owed (Some x) at =
+        stays (Push (P2 v t (Some x))) (Push (P4 v t (TB s) (Some x))) at (same-push (Push (P10 x true))) (same-take s Idle)
 
-    pub p2-owed : (held : MaybeBlock) → calls i ≡ Push (P2 v t held) → Goes (p2 s.queue v t held)
+    pub p2-owed : (held : Option ℕ) → calls i ≡ Push (P2 v t held) → Goes (p2 s.queue v t held)
     unfolding p2
     p2-owed held at =
         cond_elim Goes (eqb (off t.raw) 63) _ _
@@ -78,7 +77,7 @@ module _ (s : State) (calls : ℕ → Call) (i : ℕ) (owed : Owed s calls) wher
   pub p3-none-owed : (v : ℕ) (t : Index) (b : ℕ) → calls i ≡ Push (P3 v t b) → Owed s (put calls i Idle)
   p3-none-owed v t b at = stays (Push (P3 v t b)) Idle at (same-push Idle) (same-take s Idle)
 
-  pub p4_lost_owed : (v : ℕ) (t : Index) (b : ℕ) (held : MaybeBlock) → calls i ≡ Push (P4 v t b held) → Goes (p4_lost s.queue v held)
+  pub p4_lost_owed : (v : ℕ) (t : Index) (b : ℕ) (held : Option ℕ) → calls i ≡ Push (P4 v t b held) → Goes (p4_lost s.queue v held)
   p4_lost_owed v t b held at =
       stays (Push (P4 v t b held)) (Push (P2 v s.queue.tail held)) at (same-push (Push (P1 v held))) (same-take s Idle)
 
@@ -113,9 +112,9 @@ module _ (s : State) (calls : ℕ → Call) (i : ℕ) (owed : Owed s calls) wher
   unfolding s5
   s5-owed k c at = go (nxt s c.block)
     where
-      go : (n : MaybeBlock) → Goes (s5_next s.queue k c n)
-      go Nothing = stays (Steal (S5 k c)) (Steal (S5 k c)) at (same-push Idle) (same-take s (Steal (S5 k c)))
-      go (Block x) = stays (Steal (S5 k c)) (Steal (S6 k c x)) at (same-push Idle) (same-take s (Steal (S5 k c)))
+      go : (n : Option ℕ) → Goes (s5_next s.queue k c n)
+      go None = stays (Steal (S5 k c)) (Steal (S5 k c)) at (same-push Idle) (same-take s (Steal (S5 k c)))
+      go (Some x) = stays (Steal (S5 k c)) (Steal (S6 k c x)) at (same-push Idle) (same-take s (Steal (S5 k c)))
 
   pub s6-owed : (k : Kind) (c : Claim) (x : ℕ) → calls i ≡ Steal (S6 k c x) → Goes (s6 s.queue s.pool k c x)
   s6-owed k c x at = stays (Steal (S6 k c x)) _ at (same-push Idle) (same-take s (Steal (S6 k c x)))

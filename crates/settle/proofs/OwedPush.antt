@@ -1,4 +1,5 @@
 -- What is owed across the lines of a push that change the shared state or the ghost: the conjuncts on pushes.
+use Rattle.std.specs.Prelude.{Option, None, Some}
 use Prim.Native.Nat.{ℕ, ◌+◌, ◌*◌, ◌-◌, ◌≤◌, ◌<◌}
 use mathlib.Core.Path.{◌≡◌, refl, sym, ap, ◌∙◌}
 use mathlib.Core.Bool.{Bool, true, false, cond}
@@ -12,8 +13,6 @@ use Rattle.index.specs.declared.Index.{Index}
 use Rattle.memory.specs.Layout.{has}
 use Rattle.memory.specs.Touch.{Touch, clears, frees}
 use Rattle.memory.proofs.Apart.{next-links, next-writes_state}
-use Rattle.memory.specs.declared.MaybeBlock.{MaybeBlock}
-use Rattle.memory.specs.declared.MaybeBlock.TheVariants.{Nothing, Block}
 use Rattle.memory.specs.declared.Mark.TheVariants.{Write}
 use Rattle.state.specs.declared.PushLine.{PushLine}
 use Rattle.state.specs.declared.PushLine.TheVariants.{P3, P4, P6, P7, P8, P9, P10}
@@ -61,16 +60,16 @@ module _ (s : State) (x : ℕ) (w : Own) (touch : Touch) (h : Shared s) (change 
 
 -- the block that is taken is held, and no other was
 pub p3-push : (s : State) (i x v : ℕ) (t : Index) (b : ℕ) (h : Shared s) (n : x < N s) (f : free s x ≡ true) (calls : ℕ → Call)
-    → calls i ≡ Push (P3 v t b) → Owed s calls → PushOwed (given-on s x (Held i) (clears x)) (put calls i (Push (P4 v t b (Block x))))
+    → calls i ≡ Push (P3 v t b) → Owed s calls → PushOwed (given-on s x (Held i) (clears x)) (put calls i (Push (P4 v t b (Some x))))
 p3-push s i x v t b h n f calls at owed =
-    given-push s x (Held i) (clears x) h (p3-changes s i x h n f) calls i (Push (P4 v t b (Block x))) owed
+    given-push s x (Held i) (clears x) h (p3-changes s i x h n f) calls i (Push (P4 v t b (Some x))) owed
     (λ e. rw at at e)
     (λ k e. rw at at e)
     (λ k e. rw at at e)
     (λ c j.
-    put_elim (λ o. o ≡ Held j → holds (put calls i (Push (P4 v t b (Block x))) j) ≡ some c) (own s) x (Held i) c
-    (λ e g. named-now (λ m. holds m ≡ some c) calls i j (Push (P4 v t b (Block x))) (cc) (ap some (sym e)))
-    (λ m g. named (λ m. holds m ≡ some c) calls i j (Push (P4 v t b (Block x))) (owed.held c j g) (λ y e. none-some c (rw at at e))))
+    put_elim (λ o. o ≡ Held j → holds (put calls i (Push (P4 v t b (Some x))) j) ≡ some c) (own s) x (Held i) c
+    (λ e g. named-now (λ m. holds m ≡ some c) calls i j (Push (P4 v t b (Some x))) (cc) (ap some (sym e)))
+    (λ m g. named (λ m. holds m ≡ some c) calls i j (Push (P4 v t b (Some x))) (owed.held c j g) (λ y e. none-some c (rw at at e))))
 
 -- a block that is given back was held by i alone
 pub p10-push : (s : State) (i x : ℕ) (spent : Bool) (h : Shared s) (mine : own s x ≡ Held i) (calls : ℕ → Call)
@@ -88,35 +87,35 @@ p10-push s i x spent h mine calls at owed =
 -- ---- P4: the new ticket is i's, and so are the link and the tail of a block that it ended
 
 module _ (v : ℕ) (t : Index) (b : ℕ) where
-  abbrev p4-next : MaybeBlock → PushLine
+  abbrev p4-next : Option ℕ → PushLine
   p4-next held = cond (eqb (off t.raw) 62) (p4_last v t b held) (P8 v t b held)
 
-  last-owes : (held : MaybeBlock) → push_owes (p4_last v t b held) ≡ some (tk t.raw)
-  last-owes Nothing = refl
-  last-owes (Block x) = refl
+  last-owes : (held : Option ℕ) → push_owes (p4_last v t b held) ≡ some (tk t.raw)
+  last-owes None = refl
+  last-owes (Some x) = refl
 
-  next-owes : (held : MaybeBlock) → push_owes (p4-next held) ≡ some (tk t.raw)
+  next-owes : (held : Option ℕ) → push_owes (p4-next held) ≡ some (tk t.raw)
   next-owes held = cond_elim (λ line. push_owes line ≡ some (tk t.raw)) (eqb (off t.raw) 62) _ _ (λ e. last-owes held) (λ e. refl)
 
-  last-holds : (held : MaybeBlock) → push_holds (p4_last v t b held) ≡ held_of held
-  last-holds Nothing = refl
-  last-holds (Block x) = refl
+  last-holds : (held : Option ℕ) → push_holds (p4_last v t b held) ≡ held_of held
+  last-holds None = refl
+  last-holds (Some x) = refl
 
-  next-holds : (held : MaybeBlock) → push_holds (p4-next held) ≡ held_of held
+  next-holds : (held : Option ℕ) → push_holds (p4-next held) ≡ held_of held
   next-holds held = cond_elim (λ line. push_holds line ≡ held_of held) (eqb (off t.raw) 62) _ _ (λ e. last-holds held) (λ e. refl)
 
-  last-ends : (held : MaybeBlock) → Has held → (push_installs (p4_last v t b held) ≡ true) × (push_links (p4_last v t b held) ≡ some (tk t.raw))
-  last-ends Nothing x = absurd x
-  last-ends (Block x) y = (refl, refl)
+  last-ends : (held : Option ℕ) → Has held → (push_installs (p4_last v t b held) ≡ true) × (push_links (p4_last v t b held) ≡ some (tk t.raw))
+  last-ends None x = absurd x
+  last-ends (Some x) y = (refl, refl)
 
-  next-ends : (held : MaybeBlock) → off t.raw ≡ 62 → Has held
+  next-ends : (held : Option ℕ) → off t.raw ≡ 62 → Has held
       → (push_installs (p4-next held) ≡ true) × (push_links (p4-next held) ≡ some (tk t.raw))
   next-ends held e x =
       cond_elim (λ line. (push_installs line ≡ true) × (push_links line ≡ some (tk t.raw))) (eqb (off t.raw) 62) _ _
       (λ f. last-ends held x)
       (λ f. absurd (eqb-false (off t.raw) 62 f e))
 
-module _ (s : State) (i v : ℕ) (t : Index) (b : ℕ) (held : MaybeBlock) (h : Shared s) (e : T s ≡ t.raw) (ok : P4Ok s i t.raw b held)
+module _ (s : State) (i v : ℕ) (t : Index) (b : ℕ) (held : Option ℕ) (h : Shared s) (e : T s ≡ t.raw) (ok : P4Ok s i t.raw b held)
     (calls : ℕ → Call) (at : calls i ≡ Push (P4 v t b held)) (owed : Owed s calls) where
   abbrev next : Call
   next = Push (p4-next v t b held)
@@ -142,7 +141,7 @@ module _ (s : State) (i v : ℕ) (t : Index) (b : ℕ) (held : MaybeBlock) (h : 
           named-now (λ c. owes c ≡ some (63 * l + o)) calls i _ next (pusher-now (63 * l + o) z)
           (next-owes v t b held ∙ ap some (sym (z ∙ ap tk e)))
 
-  link-now : (a l : ℕ) → lap_of (own s a) ≡ some l → nxt s a ≡ Nothing → 63 * l + 63 ≤ tk (advanced t.raw 1)
+  link-now : (a l : ℕ) → lap_of (own s a) ≡ some l → nxt s a ≡ None → 63 * l + 63 ≤ tk (advanced t.raw 1)
       → links (put calls i next (put s.ghost.pusher (tk t.raw) i (63 * l + 62))) ≡ some (63 * l + 62)
   link-now a l p n r = go (dec_lt (63 * l + 62) (np s))
     where
@@ -212,9 +211,9 @@ module _ (s : State) (i v : ℕ) (t : Index) (b x : ℕ) (h : Shared s) (ok : P6
 module _ (s : State) (i v : ℕ) (t : Index) (b x : ℕ) (h : Shared s) (ok : P7Ok s i v t.raw b x)
     (calls : ℕ → Call) (at : calls i ≡ Push (P7 v t b x)) (owed : Owed s calls) where
   -- a block without a link had none, and is not b
-  unlinked : (c : ℕ) → nxt (linked_on s b x) c ≡ Nothing → (nxt s c ≡ Nothing) × (c ≡ b → ⊥)
+  unlinked : (c : ℕ) → nxt (linked_on s b x) c ≡ None → (nxt s c ≡ None) × (c ≡ b → ⊥)
   unlinked c n =
-      let m : c ≡ b → ⊥ = λ e. let z : Block x ≡ Nothing = sym (ap (nxt (linked_on s b x)) e ∙ linked s i v t.raw b x h ok) ∙ n in differ (cc) in
+      let m : c ≡ b → ⊥ = λ e. let z : Some x ≡ None = sym (ap (nxt (linked_on s b x)) e ∙ linked s i v t.raw b x h ok) ∙ n in differ (cc) in
       (sym (next-links s.pool b x c m) ∙ n, m)
 
   -- .. which is the only block of its lap
@@ -223,26 +222,26 @@ module _ (s : State) (i v : ℕ) (t : Index) (b x : ℕ) (h : Shared s) (ok : P7
       let z : l ≡ lp t.raw = omega (arith, ok.last) in
       n (one_block s h c b (lp t.raw) (p ∙ ap some z) ok.owes.serves)
 
-  pub p7-push : PushOwed (linked_on s b x) (put calls i (Push (P8 v t b Nothing)))
+  pub p7-push : PushOwed (linked_on s b x) (put calls i (Push (P8 v t b None)))
   p7-push =
       record {
         installer = λ e.
-            named (λ m. installs m ≡ true) calls i (s.ghost.pusher (np s - 1)) (Push (P8 v t b Nothing)) (owed.installer e) (λ y f. rw at at f);
-        held = λ c j e. named (λ m. holds m ≡ some c) calls i j (Push (P8 v t b Nothing)) (owed.held c j e) (λ y f. rw at at f);
+            named (λ m. installs m ≡ true) calls i (s.ghost.pusher (np s - 1)) (Push (P8 v t b None)) (owed.installer e) (λ y f. rw at at f);
+        held = λ c j e. named (λ m. holds m ≡ some c) calls i j (Push (P8 v t b None)) (owed.held c j e) (λ y f. rw at at f);
         write = λ c l o p q r u.
-            named (λ m. owes m ≡ some (63 * l + o)) calls i (s.ghost.pusher (63 * l + o)) (Push (P8 v t b Nothing))
+            named (λ m. owes m ≡ some (63 * l + o)) calls i (s.ghost.pusher (63 * l + o)) (Push (P8 v t b None))
             (owed.write c l o p q r (was s i v t.raw b x h ok Write c o q ∙ u))
             (λ y f. rw at at f);
         link = λ c l p n r.
             let a = unlinked c n in
-            named (λ m. links m ≡ some (63 * l + 62)) calls i (s.ghost.pusher (63 * l + 62)) (Push (P8 v t b Nothing))
+            named (λ m. links m ≡ some (63 * l + 62)) calls i (s.ghost.pusher (63 * l + 62)) (Push (P8 v t b None))
             (owed.link c l p a.0 r)
             (λ y f. absurd (other-lap c l p a.1 (sym (some_inj (tk t.raw) (63 * l + 62) (rw at at f)))));
       }
 
 -- ---- P9: the slot is written
 
-module _ (s : State) (i v : ℕ) (t : Index) (b : ℕ) (held : MaybeBlock) (h : Shared s) (ok : P9Ok s i v t.raw b held)
+module _ (s : State) (i v : ℕ) (t : Index) (b : ℕ) (held : Option ℕ) (h : Shared s) (ok : P9Ok s i v t.raw b held)
     (calls : ℕ → Call) (at : calls i ≡ Push (P9 v t b held)) (owed : Owed s calls) where
   unwritten : (c o : ℕ) → o < 63 → W (marked-on s t.raw b) c o ≡ false → W s c o ≡ false
   unwritten c o q u =

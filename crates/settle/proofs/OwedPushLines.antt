@@ -1,4 +1,5 @@
 -- What is owed across the lines P3 to P10: no line of a push touches what thieves owe.
+use Rattle.std.specs.Prelude.{Option, None, Some}
 use Prim.Native.Nat.{ℕ, ◌+◌, ◌≤◌, ◌<◌}
 use mathlib.Core.Path.{◌≡◌, refl, sym, ap, ◌∙◌}
 use mathlib.Core.Bool.{Bool, false, cond}
@@ -12,8 +13,6 @@ use Rattle.memory.specs.Touch.{Touch, clears, frees, writes_state}
 use Rattle.memory.specs.Pool.{pick}
 use Rattle.memory.specs.Laws.{pick-block}
 use Rattle.memory.proofs.Apart.{state-links, state-writes_token, next-writes_token}
-use Rattle.memory.specs.declared.MaybeBlock.{MaybeBlock}
-use Rattle.memory.specs.declared.MaybeBlock.TheVariants.{Nothing, Block}
 use Rattle.memory.specs.declared.Mark.TheVariants.{Write, Read, Destroy}
 use Rattle.state.specs.Move.{Move}
 use Rattle.state.specs.declared.PushLine.{PushLine}
@@ -84,11 +83,11 @@ module _ (s : State) (calls : ℕ → Call) (i : ℕ) (h : Shared s) (lines : (j
   Goes m g = Owed (moved s m g) (put calls i m.made.call)
 
   module _ (v : ℕ) (t : Index) (b : ℕ) where
-    p3-by : (r : MaybeBlock) → pick s.pool (N s) ≡ r → calls i ≡ Push (P3 v t b) → Goes (p3_took s.queue v t b r) (took s.ghost i r)
-    p3-by Nothing e at = p3-none-owed s calls i owed v t b at
-    p3-by (Block x) e at =
+    p3-by : (r : Option ℕ) → pick s.pool (N s) ≡ r → calls i ≡ Push (P3 v t b) → Goes (p3_took s.queue v t b r) (took s.ghost i r)
+    p3-by None e at = p3-none-owed s calls i owed v t b at
+    p3-by (Some x) e at =
         let p = pick-block s.pool (N s) x e in
-        pushes (given-on s x (Held i) (clears x)) (P3 v t b) (Push (P4 v t b (Block x))) at (same-take s Idle)
+        pushes (given-on s x (Held i) (clears x)) (P3 v t b) (Push (P4 v t b (Some x))) at (same-take s Idle)
         (p3-push s i x v t b h p.0 p.1 calls at owed)
         (given-take s x (Held i) (clears x) h (p3-changes s i x h p.0 p.1))
 
@@ -96,7 +95,7 @@ module _ (s : State) (calls : ℕ → Call) (i : ℕ) (h : Shared s) (lines : (j
     unfolding p3
     p3-owed at = p3-by (pick s.pool (N s)) refl at
 
-    pub p4-owed : (held : MaybeBlock) → PushOk s i (P4 v t b held) → calls i ≡ Push (P4 v t b held)
+    pub p4-owed : (held : Option ℕ) → PushOk s i (P4 v t b held) → calls i ≡ Push (P4 v t b held)
         → Goes (p4 s.queue v t b held) (cond (eqb (T s) t.raw) (ticketed s.ghost i v t.raw) s.ghost)
     unfolding p4
     p4-owed held ok at =
@@ -123,13 +122,13 @@ module _ (s : State) (calls : ℕ → Call) (i : ℕ) (h : Shared s) (lines : (j
 
     pub p7-owed : (x : ℕ) → PushOk s i (P7 v t b x) → calls i ≡ Push (P7 v t b x) → Goes (p7 s.queue v t b x) s.ghost
     p7-owed x ok at =
-        pushes (linked_on s b x) (P7 v t b x) (Push (P8 v t b Nothing)) at (same-take s Idle)
+        pushes (linked_on s b x) (P7 v t b x) (Push (P8 v t b None)) at (same-take s Idle)
         (p7-push s i v t b x h ok calls at owed)
         (take-marks s (linked_on s b x) refl (λ k. refl) (λ c. refl)
         (λ c o q. ap (has Read) (state-links s.pool b x c o q))
         (λ c o q. ap (has Destroy) (state-links s.pool b x c o q)))
 
-    pub p8-owed : (held : MaybeBlock) → PushOk s i (P8 v t b held) → calls i ≡ Push (P8 v t b held) → Goes (p8 s.queue v t b held) s.ghost
+    pub p8-owed : (held : Option ℕ) → PushOk s i (P8 v t b held) → calls i ≡ Push (P8 v t b held) → Goes (p8 s.queue v t b held) s.ghost
     p8-owed held ok at =
         pushes (told-on s v t.raw b) (P8 v t b held) (Push (P9 v t b held)) at (same-take s Idle)
         (push_frame s (told-on s v t.raw b) calls i (Push (P9 v t b held)) owed
@@ -144,24 +143,24 @@ module _ (s : State) (calls : ℕ → Call) (i : ℕ) (h : Shared s) (lines : (j
         told : (c o : ℕ) → o < 63 → state (told-on s v t.raw b).pool c o ≡ state s.pool c o
         told c o q = state-writes_token s.pool b (off t.raw) v c o ok.owes.slot q
 
-    p9-take : (held : MaybeBlock) → PushOk s i (P9 v t b held) → TakeSame s (marked-on s t.raw b)
+    p9-take : (held : Option ℕ) → PushOk s i (P9 v t b held) → TakeSame s (marked-on s t.raw b)
     p9-take held ok =
         take-marks s (marked-on s t.raw b) refl (λ k. refl) (λ c. refl)
         (λ c o q. sym (read_kept s i v t.raw b h ok.owes c o q))
         (λ c o q. sym (destroy_kept s i v t.raw b h ok.owes c o q))
 
-    p9-by : (held : MaybeBlock) → PushOk s i (P9 v t b held) → calls i ≡ Push (P9 v t b held)
+    p9-by : (held : Option ℕ) → PushOk s i (P9 v t b held) → calls i ≡ Push (P9 v t b held)
         → Goes (p9_ends s.queue held (writes_state b (off t.raw) (or (state s.pool b (off t.raw)) Write))) s.ghost
-    p9-by Nothing ok at =
-        pushes (marked-on s t.raw b) (P9 v t b Nothing) Idle at (same-take s Idle)
-        (p9-push s i v t b Nothing h ok calls at owed Idle refl (λ c e. e) refl)
-        (p9-take Nothing ok)
-    p9-by (Block x) ok at =
-        pushes (marked-on s t.raw b) (P9 v t b (Block x)) (Push (P10 x false)) at (same-take s Idle)
-        (p9-push s i v t b (Block x) h ok calls at owed (Push (P10 x false)) refl (λ c e. e) refl)
-        (p9-take (Block x) ok)
+    p9-by None ok at =
+        pushes (marked-on s t.raw b) (P9 v t b None) Idle at (same-take s Idle)
+        (p9-push s i v t b None h ok calls at owed Idle refl (λ c e. e) refl)
+        (p9-take None ok)
+    p9-by (Some x) ok at =
+        pushes (marked-on s t.raw b) (P9 v t b (Some x)) (Push (P10 x false)) at (same-take s Idle)
+        (p9-push s i v t b (Some x) h ok calls at owed (Push (P10 x false)) refl (λ c e. e) refl)
+        (p9-take (Some x) ok)
 
-    pub p9-owed : (held : MaybeBlock) → PushOk s i (P9 v t b held) → calls i ≡ Push (P9 v t b held) → Goes (p9 s.queue s.pool v t b held) s.ghost
+    pub p9-owed : (held : Option ℕ) → PushOk s i (P9 v t b held) → calls i ≡ Push (P9 v t b held) → Goes (p9 s.queue s.pool v t b held) s.ghost
     unfolding p9
     p9-owed held ok at = p9-by held ok at
 

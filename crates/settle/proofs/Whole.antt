@@ -1,4 +1,6 @@
 -- Every board of a history is whole: a fresh start is, and whatever may be asked keeps it.
+use Rattle.std.specs.Prelude.{Result, Ok, Err}
+use Rattle.state.specs.declared.Refusal.{Refusal}
 use Prim.Native.Nat.{ℕ, zero, suc, ◌≤◌, ◌<◌}
 use mathlib.Core.Path.{◌≡◌, refl, sym, ap, subst, ◌∙◌}
 use mathlib.Core.Bool.{Bool, true, false, cond}
@@ -20,8 +22,6 @@ use Rattle.machine.specs.Entry.{tested_as, begun, begin_tested, begin_entry, aft
 use Rattle.machine.specs.declared.Request.{Request}
 use Rattle.machine.specs.declared.Begun.{Begun}
 use Rattle.machine.specs.declared.RingPopped.{RingPopped}
-use Rattle.machine.specs.declared.Tested.{Tested}
-use Rattle.machine.specs.declared.Tested.TheVariants.{Passes, Refuses}
 use Rattle.history.specs.Board.{Board, Ask, begins, pops, steps, runs, start, thread_at, ran, with_thread, asked}
 use Rattle.history.specs.History.{board}
 use Rattle.invariant.specs.Ghost.{Ghost}
@@ -165,16 +165,16 @@ module _ (w : Board) (h : Whole w) (n : ℕ) where
   opens : is_idle t.call ≡ false → n < length w.threads
   opens e = open_record w n (rw e)
 
-  step_by : (r : Tested) → Whole (ran w n (step_tested q m t r))
-  step_by (Refuses r) = refused
-  step_by Passes =
+  step_by : (r : Result Unit Refusal) → Whole (ran w n (step_tested q m t r))
+  step_by (Err r) = refused
+  step_by (Ok tt) =
       cond_elim (λ (a : After). Whole (ran w n a)) (is_idle t.call) _ _
       (λ e. refused)
       (λ e. put_back w n _ _ _ (opens e) (step_sound q m (thread_at w) n t refl (in_hand w h)))
 
-  run_by : (budget : ℕ) (r : Tested) → Whole (ran w n (run_tested q m t budget r))
-  run_by budget (Refuses r) = refused
-  run_by budget Passes =
+  run_by : (budget : ℕ) (r : Result Unit Refusal) → Whole (ran w n (run_tested q m t budget r))
+  run_by budget (Err r) = refused
+  run_by budget (Ok tt) =
       cond_elim (λ (a : After). Whole (ran w n a)) (is_idle t.call) _ _
       (λ e. refused)
       (λ e. put_back w n _ _ _ (opens e) (run_sound budget q m (thread_at w) n t refl (in_hand w h)))
@@ -197,9 +197,9 @@ module _ (w : Board) (h : Whole w) (n : ℕ) where
       by true f = put_back w n q m u (ltb-true n (length w.threads) f) sound
       by false f = subst Whole (sym (out-board w n u (ltb-false n (length w.threads) f))) h
 
-  begin_by : (what : Request) (r : Tested) → Whole (with_thread w n (begin_tested t what r).thread)
-  begin_by what (Refuses r) = refused
-  begin_by what Passes =
+  begin_by : (what : Request) (r : Result Unit Refusal) → Whole (with_thread w n (begin_tested t what r).thread)
+  begin_by what (Err r) = refused
+  begin_by what (Ok tt) =
       cond_elim (λ (b : Begun). Whole (with_thread w n b.thread)) (is_idle t.call) _ _
       (λ idle.
       cond_elim (λ (b : Begun). Whole (with_thread w n b.thread)) (limit_good (tested_as what)) _ _
@@ -212,9 +212,9 @@ module _ (w : Board) (h : Whole w) (n : ℕ) where
       (λ limit. refused))
       (λ idle. refused)
 
-  pop-by : (r : Tested) → Whole (with_thread w n (pop_tested t r).thread)
-  pop-by (Refuses r) = refused
-  pop-by Passes =
+  pop-by : (r : Result Unit Refusal) → Whole (with_thread w n (pop_tested t r).thread)
+  pop-by (Err r) = refused
+  pop-by (Ok tt) =
       cond_elim (λ (p : RingPopped). Whole (with_thread w n p.thread)) (is_idle t.call) _ _
       (λ idle.
       changed (after_pop t (popped t.ring)).thread (popped-ok (state_at q m h.ghost) n t (h.threads n) (idle-is t.call idle))

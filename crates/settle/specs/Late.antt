@@ -1,8 +1,6 @@
 -- A late call is past its compare: nobody can send it back, and a count of the lines that it has still to make falls with
 -- each of its steps.
-use Rattle.std.specs.Prelude.{ℕ, ◌+◌, ◌*◌, ◌-◌, ◌≡◌, Bool, true, false, cond, eqb}
-use Rattle.memory.specs.declared.MaybeBlock.{MaybeBlock}
-use Rattle.memory.specs.declared.MaybeBlock.TheVariants.{Nothing, Block}
+use Rattle.std.specs.Prelude.{ℕ, ◌+◌, ◌*◌, ◌-◌, ◌≡◌, Bool, true, false, cond, eqb, Option, None, Some}
 use Rattle.state.specs.declared.Claim.{Claim}
 use Rattle.state.specs.declared.PushLine.{PushLine}
 use Rattle.state.specs.declared.PushLine.TheVariants.{P1, P2, P3, P4, P5, P6, P7, P8, P9, P10}
@@ -49,9 +47,9 @@ is_late (Length line) = false
 is_late (Empty line) = false
 
 -- one line more with a block held
-abbrev pub gives_back : MaybeBlock → ℕ
-gives_back Nothing = 0
-gives_back (Block x) = 1
+abbrev pub gives_back : Option ℕ → ℕ
+gives_back None = 0
+gives_back (Some x) = 1
 
 abbrev pub late_push : PushLine → ℕ
 late_push (P1 v held) = 0
@@ -109,7 +107,7 @@ StealWaits s (S1 k) = ⊥
 StealWaits s (S2 k h) = ⊥
 StealWaits s (S3 k h b) = ⊥
 StealWaits s (S4 k c more) = ⊥
-StealWaits s (S5 k c) = nxt s c.block ≡ Nothing
+StealWaits s (S5 k c) = nxt s c.block ≡ None
 StealWaits s (S6 k c x) = ⊥
 StealWaits s (S7 k c x more) = ⊥
 StealWaits s (S8 k c more) = ⊥

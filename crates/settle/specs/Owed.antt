@@ -1,6 +1,5 @@
 -- What is missing is owed by a thread that is still open.
-use Rattle.std.specs.Prelude.{ℕ, ◌+◌, ◌*◌, ◌-◌, ◌≤◌, ◌<◌, ◌≡◌, true, false}
-use Rattle.memory.specs.declared.MaybeBlock.TheVariants.{Nothing}
+use Rattle.std.specs.Prelude.{ℕ, ◌+◌, ◌*◌, ◌-◌, ◌≤◌, ◌<◌, ◌≡◌, true, false, None}
 use Rattle.state.specs.declared.Call.{Call}
 use Rattle.invariant.specs.Ghost.{some, Held, Back, lap_of, front}
 use Rattle.invariant.specs.State.{State, off, T, H, np, nc, W, R, nxt, own}
@@ -25,7 +24,7 @@ WriteOwed s calls =
 
 abbrev pub LinkOwed : State → (ℕ → Call) → Type 0
 LinkOwed s calls =
-    (b l : ℕ) → lap_of (own s b) ≡ some l → nxt s b ≡ Nothing → 63 * l + 63 ≤ np s
+    (b l : ℕ) → lap_of (own s b) ≡ some l → nxt s b ≡ None → 63 * l + 63 ≤ np s
     → links (calls (s.ghost.pusher (63 * l + 62))) ≡ some (63 * l + 62)
 
 -- a claimed slot below the frontier is marked or its thief still reads

@@ -1,7 +1,5 @@
 -- All that a conjunct on what is owed asks of another thread's call.
-use Rattle.std.specs.Prelude.{ℕ, ◌+◌, ◌*◌, ◌-◌, ◌≤◌, ◌<◌, ◌≡◌, Bool, true, false, ◌⊎◌}
-use Rattle.memory.specs.declared.MaybeBlock.{MaybeBlock}
-use Rattle.memory.specs.declared.MaybeBlock.TheVariants.{Nothing, Block}
+use Rattle.std.specs.Prelude.{ℕ, ◌+◌, ◌*◌, ◌-◌, ◌≤◌, ◌<◌, ◌≡◌, Bool, true, false, ◌⊎◌, Option, None, Some}
 use Rattle.state.specs.declared.Claim.{Claim}
 use Rattle.state.specs.declared.PushLine.{PushLine}
 use Rattle.state.specs.declared.PushLine.TheVariants.{P1, P2, P3, P4, P5, P6, P7, P8, P9, P10}
@@ -12,9 +10,9 @@ use Rattle.state.specs.declared.Call.TheVariants.{Idle, Push, Steal, Length, Emp
 use Rattle.invariant.specs.Ghost.{Maybe, none, some}
 use Rattle.invariant.specs.State.{State, lp, off, tk, D}
 
-abbrev pub held_of : MaybeBlock → Maybe
-held_of Nothing = none
-held_of (Block x) = some x
+abbrev pub held_of : Option ℕ → Maybe
+held_of None = none
+held_of (Some x) = some x
 
 -- the block that a push holds
 abbrev pub push_holds : PushLine → Maybe

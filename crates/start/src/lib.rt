@@ -5,7 +5,7 @@ ghost use Rattle.std.specs.Prelude.{◌≡◌, length};
 ghost use Rattle.machine.specs.Entry.{at_start, set_up, set_up_pool};
 
 use index::Index;
-use machine::{Ready, Started};
+use machine::Started;
 use state::{Queue, Refusal};
 
 fn at_start(threads: u64, blocks: u64, ceiling: u64) -> Queue
@@ -33,11 +33,11 @@ pub fn setup(threads: u64, blocks: u64, ceiling: u64, pool: &mut [u64]) -> Start
         supply::reset(pool, blocks);
         return Started {
             queue,
-            answer: Ready::Ready,
+            answer: Ok(()),
         };
     }
     Started {
         queue,
-        answer: Ready::Refused(Refusal::BadSetup),
+        answer: Err(Refusal::BadSetup),
     }
 }

@@ -1,11 +1,9 @@
 -- The BAD_STATE list of document 01, item by item, as one test: true where the list is not broken.
-use Rattle.std.specs.Prelude.{ℕ, zero, suc, ◌+◌, ◌*◌, ◌-◌, min, Bool, true, ◌&&◌, not, List, ltb, leb, eqb}
+use Rattle.std.specs.Prelude.{ℕ, zero, suc, ◌+◌, ◌*◌, ◌-◌, min, Bool, true, ◌&&◌, not, List, ltb, leb, eqb, Option, None, Some}
 use Rattle.index.specs.Position.{position, offset}
 use Rattle.index.specs.declared.Index.{Index}
 use Rattle.memory.specs.Layout.{next}
 use Rattle.memory.specs.Pool.{pool_len}
-use Rattle.memory.specs.declared.MaybeBlock.{MaybeBlock}
-use Rattle.memory.specs.declared.MaybeBlock.TheVariants.{Nothing, Block}
 use Rattle.state.specs.declared.Queue.{Queue}
 use Rattle.state.specs.declared.Kind.{Kind}
 use Rattle.state.specs.declared.Kind.TheVariants.{Steal, Batch, Take}
@@ -34,14 +32,14 @@ setup_good q len = counts_good q.threads q.blocks q.ceiling && eqb len (pool_len
 abbrev pub block_good : Queue → ℕ → Bool
 block_good q b = ltb b q.blocks
 
-abbrev pub held_good : Queue → MaybeBlock → Bool
-held_good q Nothing = true
-held_good q (Block b) = block_good q b
+abbrev pub held_good : Queue → Option ℕ → Bool
+held_good q None = true
+held_good q (Some b) = block_good q b
 
 -- every block's next, of free blocks too: those of the first n blocks
-abbrev pub next_good : ℕ → MaybeBlock → Bool
-next_good blocks Nothing = true
-next_good blocks (Block b) = ltb b blocks
+abbrev pub next_good : ℕ → Option ℕ → Bool
+next_good blocks None = true
+next_good blocks (Some b) = ltb b blocks
 
 unfoldable pub nexts_good : List ℕ → ℕ → ℕ → Bool
 nexts_good m blocks zero = true
@@ -64,9 +62,9 @@ abbrev pub slot_good : Queue → Index → Bool
 slot_good q i = loaded_good q i && ltb (offset (position i.raw)) 63
 
 -- P4 at offset 62 has its block
-abbrev pub holds_at_last : Index → MaybeBlock → Bool
-holds_at_last t Nothing = not (eqb (offset (position t.raw)) 62)
-holds_at_last t (Block b) = true
+abbrev pub holds_at_last : Index → Option ℕ → Bool
+holds_at_last t None = not (eqb (offset (position t.raw)) 62)
+holds_at_last t (Some b) = true
 
 unfoldable pub push_good : Queue → PushLine → Bool
 push_good q (P1 token held) = held_good q held

@@ -7,7 +7,6 @@ ghost use Rattle.state.specs.Answers.{number};
 ghost use Rattle.state.specs.Move.{settle};
 
 use index::Index;
-use memory::MaybeBlock;
 use ring::Ring;
 
 // The Injector: its two `Position`s, and the counts it was set up with.
@@ -26,15 +25,15 @@ pub struct Queue {
 // block it holds, where it has them.
 #[derive(Clone, Copy)]
 pub enum PushLine {
-    P1(u64, MaybeBlock),
-    P2(u64, Index, MaybeBlock),
+    P1(u64, Option<u64>),
+    P2(u64, Index, Option<u64>),
     P3(u64, Index, u64),
-    P4(u64, Index, u64, MaybeBlock),
+    P4(u64, Index, u64, Option<u64>),
     P5(u64, Index, u64, u64),
     P6(u64, Index, u64, u64),
     P7(u64, Index, u64, u64),
-    P8(u64, Index, u64, MaybeBlock),
-    P9(u64, Index, u64, MaybeBlock),
+    P8(u64, Index, u64, Option<u64>),
+    P9(u64, Index, u64, Option<u64>),
     // the block to give back, and whether the lap was spent
     P10(u64, bool),
 }
@@ -111,6 +110,46 @@ pub enum Call {
     Empty(EmptyLine),
 }
 
+impl From<PushLine> for Call {
+    ghost use Rattle.state.specs.declared.Call.TheVariants.{Push};
+
+    ghost from_gives = { λ line call. call ≡ Push line };
+
+    fn from(line: PushLine) -> Call {
+        Call::Push(line)
+    }
+}
+
+impl From<StealLine> for Call {
+    ghost use Rattle.state.specs.declared.Call.TheVariants.{Steal};
+
+    ghost from_gives = { λ line call. call ≡ Steal line };
+
+    fn from(line: StealLine) -> Call {
+        Call::Steal(line)
+    }
+}
+
+impl From<LengthLine> for Call {
+    ghost use Rattle.state.specs.declared.Call.TheVariants.{Length};
+
+    ghost from_gives = { λ line call. call ≡ Length line };
+
+    fn from(line: LengthLine) -> Call {
+        Call::Length(line)
+    }
+}
+
+impl From<EmptyLine> for Call {
+    ghost use Rattle.state.specs.declared.Call.TheVariants.{Empty};
+
+    ghost from_gives = { λ line call. call ≡ Empty line };
+
+    fn from(line: EmptyLine) -> Call {
+        Call::Empty(line)
+    }
+}
+
 // A thread: its ring, where its call stands, and the tokens a claim has read but not yet handed over.
 #[derive(Clone, Copy)]
 pub struct Thread {
@@ -165,19 +204,21 @@ pub struct Stepped {
 }
 
 // Document 01, "Numbers given back".
-pub fn refusal_number(refusal: Refusal) -> u64
-    ensures { result ≡ number refusal }
-{
-    match refusal {
-        Refusal::BadSetup => 1,
-        Refusal::BadState => 2,
-        Refusal::NoThread => 3,
-        Refusal::Busy => 4,
-        Refusal::NoLimit => 5,
-        Refusal::NoRoom => 6,
-        Refusal::Idle => 7,
-        Refusal::NoBlock => 8,
-        Refusal::Spent => 9,
+impl From<Refusal> for u64 {
+    ghost from_gives = { λ refusal n. n ≡ number refusal };
+
+    fn from(refusal: Refusal) -> u64 {
+        match refusal {
+            Refusal::BadSetup => 1,
+            Refusal::BadState => 2,
+            Refusal::NoThread => 3,
+            Refusal::Busy => 4,
+            Refusal::NoLimit => 5,
+            Refusal::NoRoom => 6,
+            Refusal::Idle => 7,
+            Refusal::NoBlock => 8,
+            Refusal::Spent => 9,
+        }
     }
 }
 

@@ -6,7 +6,7 @@ ghost use Rattle.machine.specs.Entry.{step_entry};
 
 use advance::advance;
 use entry::test_open;
-use machine::{Ran, Tested};
+use machine::Ran;
 use ran::{counted, refused};
 use state::{Queue, Thread};
 
@@ -16,7 +16,7 @@ pub fn step(q: Queue, pool: &mut [u64], thread: Thread, number: u64) -> Ran
     ensures pool_after { pool.new ≡ (step_entry q pool.old thread number).pool }
 {
     let tested = test_open(q, pool, thread, number);
-    if let Tested::Refuses(refusal) = tested {
+    if let Err(refusal) = tested {
         return refused(q, thread, refusal);
     }
     let stepped = advance(q, pool, thread);

@@ -1,11 +1,10 @@
 -- What one turn of the search shows of the blocks that are left, and what one more free mark makes of the pool.
-use Rattle.std.specs.Prelude.{ℕ, zero, suc, ◌+◌, ◌-◌, ◌<◌, ◌≤◌, ◌≡◌, true, false, List, set}
+use Rattle.std.specs.Prelude.{ℕ, zero, suc, ◌+◌, ◌-◌, ◌<◌, ◌≤◌, ◌≡◌, true, false, List, set, None, Some}
 use Rattle.std.proofs.Common.{arith, add-one}
-use Rattle.memory.specs.declared.MaybeBlock.TheVariants.{Nothing, Block}
 use Rattle.memory.specs.Layout.{is_free, free_at}
 use Rattle.memory.specs.Pool.{free_from, freed}
 
-pub found : (m : List ℕ) (b n : ℕ) → b < n → is_free m b ≡ true → free_from m b (n - b) ≡ Block b
+pub found : (m : List ℕ) (b n : ℕ) → b < n → is_free m b ≡ true → free_from m b (n - b) ≡ Some b
 unfolding free_from
 found m b n h e = let k : n - b ≡ suc (n - (b + 1)) = omega arith in rw (k, e)
 
@@ -13,7 +12,7 @@ pub passed : (m : List ℕ) (b n : ℕ) → b < n → is_free m b ≡ false → 
 unfolding free_from
 passed m b n h e = let k : n - b ≡ suc (n - (b + 1)) = omega arith in rw (k, e, add-one)
 
-pub ended : (m : List ℕ) (b n : ℕ) → n ≤ b → free_from m b (n - b) ≡ Nothing
+pub ended : (m : List ℕ) (b n : ℕ) → n ≤ b → free_from m b (n - b) ≡ None
 unfolding free_from
 ended m b n h = let k : n - b ≡ 0 = omega arith in rw k
 

@@ -5,7 +5,7 @@ ghost use Rattle.std.specs.Prelude.{◌≡◌, length};
 ghost use Rattle.memory.specs.Touch.{after, clears};
 ghost use Rattle.memory.specs.Pool.{pick, taking, fresh};
 
-use memory::{BLOCK_WORDS, MaybeBlock, give_back, is_free, store};
+use memory::{BLOCK_WORDS, give_back, is_free, store};
 
 fn clear(pool: &mut [u64], block: u64)
     ensures { pool.new ≡ after pool.old (clears block) }
@@ -17,26 +17,26 @@ fn clear(pool: &mut [u64], block: u64)
     }
 }
 
-fn find_free(pool: &[u64], blocks: u64) -> MaybeBlock
+fn find_free(pool: &[u64], blocks: u64) -> Option<u64>
     ensures { result ≡ pick pool.now blocks }
 {
     let mut block: u64 = 0;
     while block < blocks {
         if is_free(pool, block) {
-            return MaybeBlock::Block(block);
+            return Some(block);
         }
         block += 1;
     }
-    MaybeBlock::Nothing
+    None
 }
 
 // The lowest-numbered free block of `blocks`, cleared to zeros and no next, and so not free any more.
-pub fn take(pool: &mut [u64], blocks: u64) -> MaybeBlock
+pub fn take(pool: &mut [u64], blocks: u64) -> Option<u64>
     ensures value { result ≡ pick pool.old blocks }
     ensures pool_after { pool.new ≡ after pool.old (taking (pick pool.old blocks)) }
 {
     let found = find_free(pool, blocks);
-    if let MaybeBlock::Block(block) = found {
+    if let Some(block) = found {
         clear(pool, block);
     }
     found

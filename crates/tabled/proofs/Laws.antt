@@ -1,4 +1,5 @@
 -- What the table's entry gives back, case by case, in the order of its tests.
+use Rattle.std.specs.Prelude.{Ok}
 use Prim.Native.Nat.{ℕ, zero, suc, ◌<◌}
 use mathlib.Core.Path.{◌≡◌, refl, ◌∙◌, ap}
 use mathlib.Core.Bool.{Bool, true, false, ◌&&◌}
@@ -13,7 +14,6 @@ use Rattle.state.specs.declared.Queue.{Queue}
 use Rattle.state.specs.declared.Thread.{Thread}
 use Rattle.state.specs.declared.Refusal.TheVariants.{BadSetup, BadState, NoThread}
 use Rattle.machine.specs.declared.Ran.{Ran}
-use Rattle.machine.specs.declared.Tested.TheVariants.{Passes}
 use Rattle.machine.specs.Step.{After, is_idle}
 use Rattle.machine.specs.Entry.{tested, step_entry}
 use Rattle.machine.specs.EntryLaws.{step-idle, step-made}
@@ -66,7 +66,7 @@ module _ (q : Queue) (ts : List Thread) (m : List ℕ) (n : ℕ) where
         no-thread g = rw (sizes, shared, all, g)
 
         module _ (l : ltb n q.threads ≡ true) where
-          passes : tested q m (record_at ts n) n ≡ Passes
+          passes : tested q m (record_at ts n) n ≡ Ok tt
           unfolding tested sizes_good
           passes =
               rw (

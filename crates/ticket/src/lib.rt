@@ -8,8 +8,7 @@ ghost use Rattle.machine.specs.Push as spec;
 
 use index::{BLOCK_CAP, Index};
 use machine::ends;
-use machine::pushes::to;
-use memory::MaybeBlock;
+use machine::to;
 use state::{Answer, Made, PushLine, Queue, Refusal};
 
 #[tactic(auto, unfolding(machine::specs::Push::p3))]
@@ -19,15 +18,15 @@ pub fn p3(q: Queue, pool: &mut [u64], token: u64, t: Index, b: u64) -> Made
 {
     let took = supply::take(pool, q.blocks);
     match took {
-        MaybeBlock::Nothing => return ends(q, Answer::Refused(Refusal::NoBlock)),
-        MaybeBlock::Block(_) => return to(q, PushLine::P4(token, t, b, took)),
+        None => return ends(q, Answer::Refused(Refusal::NoBlock)),
+        Some(_) => return to(q, PushLine::P4(token, t, b, took)),
     }
 }
 
 // The Rust's compare-exchange on the tail index. The bound is the BAD_STATE list's, which the entries
 // test first: with it the new index fits.
 #[tactic(auto, unfolding(machine::specs::Push::p4))]
-pub fn p4(q: Queue, token: u64, t: Index, b: u64, held: MaybeBlock) -> Made
+pub fn p4(q: Queue, token: u64, t: Index, b: u64, held: Option<u64>) -> Made
     requires { position q.tail.raw ≤ 4294967295 * 64 }
     ensures { result ≡ (spec.p4 q token t b held).made }
 {
@@ -40,8 +39,8 @@ pub fn p4(q: Queue, token: u64, t: Index, b: u64, held: MaybeBlock) -> Made
     won.tail = new_tail;
     if t.offset() == BLOCK_CAP - 1 {
         match held {
-            MaybeBlock::Nothing => return to(won, PushLine::P8(token, t, b, held)),
-            MaybeBlock::Block(x) => return to(won, PushLine::P5(token, t, b, x)),
+            None => return to(won, PushLine::P8(token, t, b, held)),
+            Some(x) => return to(won, PushLine::P5(token, t, b, x)),
         }
     }
     to(won, PushLine::P8(token, t, b, held))

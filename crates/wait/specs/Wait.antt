@@ -1,9 +1,7 @@
 -- Where a call can only wait while no other thread moves, and where it stands after n steps of waiting.
-use Rattle.std.specs.Prelude.{ℕ, ◌%◌, Bool, true, false, cond, List, eqb}
+use Rattle.std.specs.Prelude.{ℕ, ◌%◌, Bool, true, false, cond, List, eqb, Option, None, Some}
 use Rattle.index.specs.Position.{position, offset}
 use Rattle.memory.specs.Layout.{state, next, has}
-use Rattle.memory.specs.declared.MaybeBlock.{MaybeBlock}
-use Rattle.memory.specs.declared.MaybeBlock.TheVariants.{Nothing, Block}
 use Rattle.memory.specs.declared.Mark.TheVariants.{Write}
 use Rattle.state.specs.declared.Queue.{Queue}
 use Rattle.state.specs.declared.PushLine.{PushLine}
@@ -31,9 +29,9 @@ push_wait q (P8 token t b held) = No
 push_wait q (P9 token t b held) = No
 push_wait q (P10 x spent) = No
 
-abbrev pub none_waits : MaybeBlock → Wait
-none_waits Nothing = Stays
-none_waits (Block x) = No
+abbrev pub none_waits : Option ℕ → Wait
+none_waits None = Stays
+none_waits (Some x) = No
 
 abbrev pub unwritten_waits : ℕ → Wait
 unwritten_waits w = cond (has Write w) No Stays

@@ -5,7 +5,7 @@ ghost use Rattle.std.specs.Prelude.{◌≡◌};
 ghost use Rattle.wait.specs.Wait.{turns_at, push_wait, none_waits, unwritten_waits, steal_wait, wait_of, waits, waited_call};
 
 use index::Index;
-use memory::{Mark, MaybeBlock};
+use memory::Mark;
 use state::{Call, PushLine, Queue, StealLine};
 
 // How a call waits, if it can only wait.
@@ -39,12 +39,12 @@ fn push_wait(q: Queue, line: PushLine) -> Wait
     }
 }
 
-fn none_waits(next: MaybeBlock) -> Wait
+fn none_waits(next: Option<u64>) -> Wait
     ensures { result ≡ none_waits next }
 {
     match next {
-        MaybeBlock::Nothing => return Wait::Stays,
-        MaybeBlock::Block(_) => return Wait::No,
+        None => return Wait::Stays,
+        Some(_) => return Wait::No,
     }
 }
 

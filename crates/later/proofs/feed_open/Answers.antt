@@ -51,7 +51,7 @@ loop-read-preserved c =
     let u = get_or l.threads p.result blank in
     let which = get_d_any l.threads p.result blank (idle_thread Fifo) (omega arith) in
     let step = running-heard _ l.queue l.threads l.line l.held l.number l.steps l.pool l.read l.out l.written
-    c.loop-read-test.true c.if-out-written-ge-ROOM.true c.if-byte-ne10.false c.in-Good.command (sym c.in-Good.ensures)
+    c.loop-read-test.true c.if-out-written-ge-ROOM.true c.if-byte-ne10.false c.in-Some.command (sym c.in-Some.ensures)
     p.result p.ensures.value u which e.queue_value e.thread_value e.steps_value e.pool_after e.wrote c.saturating-number.ensures in
     record {
       comes = rw still ((rw still at i.comes) ∙ step);

@@ -3,8 +3,8 @@ use Rattle.machine.specs.EntryLaws.{pop-made}
 use Rattle.entry.specs.Standing.{is_vacant, pop-not-idle}
 use Rattle.pop.proofs.pop.Goals as goal
 
-pub returns-in-Refuses : goal.returns-in-Refuses
-returns-in-Refuses c = c.not_popped.ensures ∙ sym (pop-not-idle _ _ _ _ (sym c.in-Refuses.ensures))
+pub returns-in-Err : goal.returns-in-Err
+returns-in-Err c = c.not_popped.ensures ∙ sym (pop-not-idle _ _ _ _ (sym c.in-Err.ensures))
 
 pub returns : goal.returns
 returns c =

@@ -4,9 +4,9 @@ use Rattle.machine.specs.TestLaws.{passed}
 use Rattle.run.proofs.Going.{run-made}
 use Rattle.run.proofs.run.Goals as goal
 
-pub returns-in-Refuses : goal.returns-in-Refuses
-returns-in-Refuses c =
-    rw (run-not_open _ _ _ _ _ (sym c.in-Refuses.ensures))
+pub returns-in-Err : goal.returns-in-Err
+returns-in-Err c =
+    rw (run-not_open _ _ _ _ _ (sym c.in-Err.ensures))
     (record { value = c.refused.ensures; pool_after = refl })
 
 pub go-requires : goal.go-requires

@@ -4,9 +4,9 @@ use Rattle.machine.specs.EntryLaws.{step-made}
 use Rattle.machine.specs.TestLaws.{passed, good_record, good-shared, good-tail}
 use Rattle.step.proofs.step.Goals as goal
 
-pub returns-in-Refuses : goal.returns-in-Refuses
-returns-in-Refuses c =
-    rw (step-not_open _ _ _ _ (sym c.in-Refuses.ensures))
+pub returns-in-Err : goal.returns-in-Err
+returns-in-Err c =
+    rw (step-not_open _ _ _ _ (sym c.in-Err.ensures))
     (record { value = c.refused.ensures; pool_after = refl })
 
 -- what the step asks is of the list, which the tests that passed have looked through
