@@ -12,15 +12,12 @@ pub fn thread_number(command: Command) -> u64
 {
     match command {
         Command::Queue(_, _, _) => 0,
-        Command::Push(n, _) => n,
-        Command::Steal(n) => n,
-        Command::Batch(n, _) => n,
-        Command::Take(n, _) => n,
-        Command::Len(n) => n,
-        Command::Empty(n) => n,
-        Command::Pop(n) => n,
-        Command::Step(n) => n,
-        Command::Run(n, _) => n,
+        Command::Push(n, _) | Command::Batch(n, _) | Command::Take(n, _) | Command::Run(n, _) => n,
+        Command::Steal(n)
+        | Command::Len(n)
+        | Command::Empty(n)
+        | Command::Pop(n)
+        | Command::Step(n) => n,
     }
 }
 
