@@ -69,7 +69,7 @@ module _ (r : Replay) (m : List ℕ) where
   pub opening_good : (p : Option Command) {x y z : ℕ} → opening_of p ≡ Some (x, y, z) → first_line r m p ≡ queue_line r m x y z
   opening_good p {x} {y} {z} =
       first_cases (λ p t. opening_of p ≡ Some (x, y, z) → t ≡ queue_line r m x y z) (λ e. cc)
-      (λ a b d e. let i : a ≡ x = cc in let j : b ≡ y = cc in let k : d ≡ z = cc in rw (i, j, k))
+      (λ a b d e. let same : (a, b, d) ≡ (x, y, z) = cc in ap (λ (t : ℕ × ℕ × ℕ). queue_line r m t.0 t.1 t.2) same)
       (λ c q e. let g : None ≡ Some (x, y, z) = sym q ∙ e in cc)
       p
 

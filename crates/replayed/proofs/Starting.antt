@@ -8,6 +8,7 @@ use lib.ListN.{length, get_or, set}
 use Rattle.state.specs.List.{counts_good}
 use Rattle.state.specs.declared.Queue.{Queue}
 use Rattle.state.specs.declared.Thread.{Thread}
+use Rattle.text.specs.declared.Command.{Command}
 use Rattle.text.specs.Print.{Wrote}
 use Rattle.replayed.specs.declared.Stage.TheVariants.{First}
 use Rattle.replayed.specs.declared.Replay.{Replay}
