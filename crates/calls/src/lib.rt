@@ -12,8 +12,7 @@ pub fn limit_good(kind: Kind) -> bool
 {
     match kind {
         Kind::Steal => true,
-        Kind::Batch(limit) => 1 <= limit,
-        Kind::Take(limit) => 1 <= limit,
+        Kind::Batch(limit) | Kind::Take(limit) => 1 <= limit,
     }
 }
 
@@ -21,14 +20,7 @@ pub fn limit_good(kind: Kind) -> bool
 fn fits(count: u64, limit: u64, cells: u64) -> bool
     ensures { result ≡ leb (count + min limit 63) cells }
 {
-    if cells < count {
-        return false;
-    }
-    let room = cells - count;
-    if limit < index::BLOCK_CAP {
-        return limit <= room;
-    }
-    index::BLOCK_CAP <= room
+    count <= cells && limit.min(index::BLOCK_CAP) <= cells - count
 }
 
 pub fn room_good(kind: Kind, count: u64) -> bool
@@ -92,13 +84,6 @@ fn may_hold(q: Queue, t: Index, block: u64, held: Option<u64>) -> bool
     place_good(q, t, block) && held_good(q, held)
 }
 
-// P5 to P7: a block is held.
-fn holds(q: Queue, t: Index, block: u64, held: u64) -> bool
-    ensures { result ≡ (slot_good q t && block_good q block && block_good q held) }
-{
-    place_good(q, t, block) && block_good(q, held)
-}
-
 #[tactic(auto, unfolding(state::specs::List::push_good))]
 pub fn push_good(q: Queue, line: PushLine) -> bool
     ensures { result ≡ push_good q line }
@@ -108,11 +93,12 @@ pub fn push_good(q: Queue, line: PushLine) -> bool
         PushLine::P2(_, t, held) => loaded_good(q, t) && held_good(q, held),
         PushLine::P3(_, t, block) => place_good(q, t, block),
         PushLine::P4(_, t, block, held) => may_hold(q, t, block, held) && holds_at_last(t, held),
-        PushLine::P5(_, t, block, held) => holds(q, t, block, held),
-        PushLine::P6(_, t, block, held) => holds(q, t, block, held),
-        PushLine::P7(_, t, block, held) => holds(q, t, block, held),
-        PushLine::P8(_, t, block, held) => may_hold(q, t, block, held),
-        PushLine::P9(_, t, block, held) => may_hold(q, t, block, held),
+        PushLine::P5(_, t, block, held)
+        | PushLine::P6(_, t, block, held)
+        | PushLine::P7(_, t, block, held) => place_good(q, t, block) && block_good(q, held),
+        PushLine::P8(_, t, block, held) | PushLine::P9(_, t, block, held) => may_hold(
+            q, t, block, held,
+        ),
         PushLine::P10(held, _) => block_good(q, held),
     }
 }
@@ -122,8 +108,7 @@ fn within_limit(kind: Kind, advance: u64) -> bool
 {
     match kind {
         Kind::Steal => advance == 1,
-        Kind::Batch(limit) => advance <= limit,
-        Kind::Take(limit) => advance <= limit,
+        Kind::Batch(limit) | Kind::Take(limit) => advance <= limit,
     }
 }
 
@@ -133,26 +118,17 @@ fn claim_good(q: Queue, claim: Claim) -> bool
 {
     let head = claim.head;
     let advance = claim.advance;
-    if !place_good(q, head, claim.block) {
-        return false;
-    }
-    if advance < 1 {
-        return false;
-    }
-    if index::BLOCK_CAP - head.offset() < advance {
-        return false;
-    }
-    advance <= q.tail.position() - head.position()
+    place_good(q, head, claim.block)
+        && 1 <= advance
+        && advance <= index::BLOCK_CAP - head.offset()
+        && advance <= q.tail.position() - head.position()
 }
 
 fn in_claim(claim: Claim, slot: u64) -> bool
     ensures { result ≡ in_claim claim slot }
 {
     let first = claim.head.offset();
-    if slot < first {
-        return false;
-    }
-    slot - first < claim.advance
+    first <= slot && slot - first < claim.advance
 }
 
 fn open_good(kind: Kind, count: u64) -> bool
@@ -164,39 +140,7 @@ fn open_good(kind: Kind, count: u64) -> bool
 fn claim_open(q: Queue, count: u64, kind: Kind, claim: Claim) -> bool
     ensures { result ≡ claim_open q count kind claim }
 {
-    let advance = claim.advance;
-    if !open_good(kind, count) {
-        return false;
-    }
-    claim_good(q, claim) && within_limit(kind, advance)
-}
-
-// S3.
-fn place_open(q: Queue, count: u64, kind: Kind, head: Index, block: u64) -> bool
-    ensures { result ≡ (open_good kind count && slot_good q head && block_good q block) }
-{
-    open_good(kind, count) && place_good(q, head, block)
-}
-
-// S6 and S7.
-fn next_open(q: Queue, count: u64, kind: Kind, claim: Claim, next: u64) -> bool
-    ensures { result ≡ (claim_open q count kind claim && block_good q next) }
-{
-    claim_open(q, count, kind, claim) && block_good(q, next)
-}
-
-// S9 and S10.
-fn slot_open(q: Queue, count: u64, kind: Kind, claim: Claim, slot: u64) -> bool
-    ensures { result ≡ (claim_open q count kind claim && in_claim claim slot) }
-{
-    claim_open(q, count, kind, claim) && in_claim(claim, slot)
-}
-
-// S12 and S13.
-fn walk_good(q: Queue, block: u64, slot: u64) -> bool
-    ensures { result ≡ (block_good q block && ltb slot 63) }
-{
-    block_good(q, block) && slot < index::BLOCK_CAP
+    open_good(kind, count) && claim_good(q, claim) && within_limit(kind, claim.advance)
 }
 
 #[tactic(auto, unfolding(state::specs::List::steal_good))]
@@ -206,17 +150,17 @@ pub fn steal_good(q: Queue, count: u64, line: StealLine) -> bool
     match line {
         StealLine::S1(k) => open_good(k, count),
         StealLine::S2(k, h) => open_good(k, count) && loaded_good(q, h),
-        StealLine::S3(k, h, block) => place_open(q, count, k, h, block),
-        StealLine::S4(k, c, _) => claim_open(q, count, k, c),
-        StealLine::S5(k, c) => claim_open(q, count, k, c),
-        StealLine::S6(k, c, next) => next_open(q, count, k, c, next),
-        StealLine::S7(k, c, next, _) => next_open(q, count, k, c, next),
-        StealLine::S8(k, c, _) => claim_open(q, count, k, c),
-        StealLine::S9(k, c, slot) => slot_open(q, count, k, c, slot),
-        StealLine::S10(k, c, slot) => slot_open(q, count, k, c, slot),
+        StealLine::S3(k, h, block) => open_good(k, count) && place_good(q, h, block),
+        StealLine::S4(k, c, _) | StealLine::S5(k, c) | StealLine::S8(k, c, _) => claim_open(
+            q, count, k, c,
+        ),
+        StealLine::S6(k, c, next) | StealLine::S7(k, c, next, _) => claim_open(q, count, k, c)
+            && block_good(q, next),
+        StealLine::S9(k, c, slot) | StealLine::S10(k, c, slot) => claim_open(q, count, k, c)
+            && in_claim(c, slot),
         StealLine::S11(_, c, slot) => claim_good(q, c) && in_claim(c, slot),
-        StealLine::S12(_, block, slot) => walk_good(q, block, slot),
-        StealLine::S13(_, block, slot) => walk_good(q, block, slot),
+        StealLine::S12(_, block, slot) | StealLine::S13(_, block, slot) => block_good(q, block)
+            && slot < index::BLOCK_CAP,
         StealLine::S14(_, block) => block_good(q, block),
     }
 }

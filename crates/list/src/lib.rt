@@ -45,14 +45,7 @@ fn next_good(blocks: u64, next: Option<u64>) -> bool
 pub fn nexts_good(pool: &[u64], blocks: u64) -> bool
     ensures { result ≡ nexts_good pool.now blocks blocks }
 {
-    let mut n = blocks;
-    while 0 < n {
-        n -= 1;
-        if !next_good(blocks, memory::next(pool, n)) {
-            return false;
-        }
-    }
-    true
+    (0..blocks).all(|n| next_good(blocks, memory::next(pool, n)))
 }
 
 #[tactic(auto, unfolding(state::specs::List::shared_good))]

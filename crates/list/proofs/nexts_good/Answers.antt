@@ -1,26 +1,41 @@
-use Rattle.std.proofs.Common.{◌≡◌, ℕ, suc, ◌-◌, ◌<◌, ◌≤◌, true, ◌&&◌, List, sym, ap, ◌∙◌, arith}
+use Rattle.std.proofs.Common.{◌≡◌, ℕ, suc, zero, ◌+◌, Bool, true, false, ◌&&◌, List, [], ◌∷◌, sym, ap, ◌∙◌, refl, arith, rules, add-one}
+use Rattle.std.specs.Prelude.{map}
+use Rattle.std.specs.List.{range_with_len, list_all}
+use Rattle.std.proofs.lemmas.Iterator.{YieldsList-from_range}
+use Rattle.std.proofs.lemmas.Iterator.Search.{all_from_yields_List}
+use Rattle.std.proofs.lemmas.List.Folds.{list_all-append, list_all-map}
+use Rattle.std.proofs.lemmas.List.FromFn.{map-range_with_len_more}
 use Rattle.memory.specs.Layout.{next}
 use Rattle.state.specs.List.{next_good, nexts_good}
 use Rattle.list.proofs.nexts_good.Goals as goal
 
--- what one turn shows of the n blocks that are left
-one_more : (m : List ℕ) (blocks n : ℕ) → 0 < n → nexts_good m blocks n ≡ (next_good blocks (next m (n - 1)) && nexts_good m blocks (n - 1))
+last_first : (a b : Bool) → (a && (b && true)) ≡ (b && a)
+last_first true true = refl
+last_first true false = refl
+last_first false true = refl
+last_first false false = refl
+
+-- a test of the first n + 1 numbers, the last of them first
+all_more : (t : ℕ → Bool) (n : ℕ) → list_all t (range_with_len 0 (n + 1)) ≡ (t n && list_all t (range_with_len 0 n))
+all_more t n =
+    let same = list_all-map (λ (b : Bool). b) t in
+    sym (same (range_with_len 0 (n + 1)))
+    ∙ ap (list_all (λ (b : Bool). b)) (map-range_with_len_more t 0 n n (omega arith))
+    ∙ list_all-append (λ (b : Bool). b) (map t (range_with_len 0 n)) (t n ∷ [])
+    ∙ ap (λ (b : Bool). b && (t n && true)) (same (range_with_len 0 n))
+    ∙ last_first (list_all t (range_with_len 0 n)) (t n)
+
+each : (m : List ℕ) (b n : ℕ) → list_all (λ (k : ℕ). next_good b (next m k)) (range_with_len 0 n) ≡ nexts_good m b n
 unfolding nexts_good
-one_more m blocks n h = let k : n ≡ suc (n - 1) = omega arith in ap (nexts_good m blocks) k
-
-none_left : (m : List ℕ) (blocks n : ℕ) → n ≤ 0 → nexts_good m blocks n ≡ true
-unfolding nexts_good
-none_left m blocks n h = let k : n ≡ 0 = omega arith in rw k
-
-pub returns-then-not-next_good : goal.returns-then-not-next_good
-returns-then-not-next_good c =
-    let e = sym (c.next_good.ensures ∙ ap (next_good _) c.next.ensures) ∙ c.if-not-next_good.true in
-    sym (c.loop-n.invariant ∙ one_more _ _ _ c.loop-n-test.true ∙ rw e)
-
-pub loop-n-preserved : goal.loop-n-preserved
-loop-n-preserved c =
-    let e = sym (c.next_good.ensures ∙ ap (next_good _) c.next.ensures) ∙ c.if-not-next_good.false in
-    c.loop-n.invariant ∙ one_more _ _ _ c.loop-n-test.true ∙ rw e
+each m b zero = refl
+each m b (suc n) =
+    ap (λ (k : ℕ). list_all (λ (j : ℕ). next_good b (next m j)) (range_with_len 0 k)) (sym (add-one n))
+    ∙ all_more (λ (k : ℕ). next_good b (next m k)) n
+    ∙ ap (λ (x : Bool). next_good b (next m n) && x) (each m b n)
 
 pub returns : goal.returns
-returns c = sym (c.loop-n.invariant ∙ none_left _ _ _ c.loop-n-test.false)
+returns c =
+    all_from_yields_List (λ (n : ℕ). next_good c.args.blocks (next c.args.pool.now n)) _ _ _ c.all.ensures.ran
+    (YieldsList-from_range 0 c.args.blocks c.args.blocks refl (omega arith))
+    (λ x b q k. search rules)
+    ∙ each _ _ _
