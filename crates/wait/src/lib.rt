@@ -1,8 +1,9 @@
 // Where a call can only wait while no other thread moves, and where it stands after that many steps of waiting.
 #![tactic(auto)]
 
-ghost use Rattle.std.specs.Prelude.{◌≡◌};
-ghost use Rattle.wait.specs.Wait.{turns_at, push_wait, none_waits, unwritten_waits, steal_wait, wait_of, waits, waited_call};
+ghost use Rattle.std.specs.Prelude.{◌≡◌, cond};
+ghost use Rattle.wait.specs.declared.Wait.TheVariants.{No, Stays};
+ghost use Rattle.wait.specs.Wait.{turns_at, push_wait, steal_wait, wait_of, waits, waited_call};
 
 use index::Index;
 use memory::Mark;
@@ -22,9 +23,10 @@ fn turns_at(i: Index, other: Call) -> Wait
     ensures { result ≡ turns_at i.raw other }
 {
     if i.offset() == index::BLOCK_CAP {
-        return Wait::Turns(other);
+        Wait::Turns(other)
+    } else {
+        Wait::No
     }
-    Wait::No
 }
 
 fn push_wait(q: Queue, line: PushLine) -> Wait
@@ -32,44 +34,28 @@ fn push_wait(q: Queue, line: PushLine) -> Wait
 {
     match line {
         PushLine::P1(token, held) => {
-            let t = q.tail;
-            return turns_at(t, Call::Push(PushLine::P2(token, t, held)));
+            turns_at(q.tail, Call::Push(PushLine::P2(token, q.tail, held)))
         }
-        _ => return Wait::No,
+        _ => Wait::No,
     }
 }
 
-fn none_waits(next: Option<u64>) -> Wait
-    ensures { result ≡ none_waits next }
+fn stays_if(idle: bool) -> Wait
+    ensures { result ≡ cond idle Stays No }
 {
-    match next {
-        None => return Wait::Stays,
-        Some(_) => return Wait::No,
-    }
-}
-
-fn unwritten_waits(state: u64) -> Wait
-    ensures { result ≡ unwritten_waits state }
-{
-    if marks::has(state, Mark::Write) {
-        return Wait::No;
-    }
-    Wait::Stays
+    if idle { Wait::Stays } else { Wait::No }
 }
 
 fn steal_wait(q: Queue, pool: &[u64], line: StealLine) -> Wait
     ensures { result ≡ steal_wait q pool.now line }
 {
     match line {
-        StealLine::S1(kind) => {
-            let h = q.head;
-            return turns_at(h, Call::Steal(StealLine::S2(kind, h)));
-        }
-        StealLine::S5(_, claim) => return none_waits(memory::next(pool, claim.block)),
+        StealLine::S1(kind) => turns_at(q.head, Call::Steal(StealLine::S2(kind, q.head))),
+        StealLine::S5(_, claim) => stays_if(memory::next(pool, claim.block).is_none()),
         StealLine::S9(_, claim, slot) => {
-            return unwritten_waits(memory::state(pool, claim.block, slot));
+            stays_if(!marks::has(memory::state(pool, claim.block, slot), Mark::Write))
         }
-        _ => return Wait::No,
+        _ => Wait::No,
     }
 }
 
@@ -78,11 +64,9 @@ pub fn wait_of(q: Queue, pool: &[u64], call: Call) -> Wait
     ensures { result ≡ wait_of q pool.now call }
 {
     match call {
-        Call::Idle => return Wait::No,
-        Call::Push(line) => return push_wait(q, line),
-        Call::Steal(line) => return steal_wait(q, pool, line),
-        Call::Length(_) => return Wait::No,
-        Call::Empty(_) => return Wait::No,
+        Call::Push(line) => push_wait(q, line),
+        Call::Steal(line) => steal_wait(q, pool, line),
+        Call::Idle | Call::Length(_) | Call::Empty(_) => Wait::No,
     }
 }
 
@@ -91,23 +75,13 @@ pub fn waited_call(call: Call, wait: Wait, left: u64) -> Call
     ensures { result ≡ waited_call call wait left }
 {
     match wait {
-        Wait::No => return call,
-        Wait::Stays => return call,
-        Wait::Turns(other) => {
-            if left % 2 == 1 {
-                return other;
-            }
-            return call;
-        }
+        Wait::Turns(other) if left % 2 == 1 => other,
+        _ => call,
     }
 }
 
 pub fn waits(wait: Wait) -> bool
     ensures { result ≡ waits wait }
 {
-    match wait {
-        Wait::No => false,
-        Wait::Stays => true,
-        Wait::Turns(_) => true,
-    }
+    !matches!(wait, Wait::No)
 }
