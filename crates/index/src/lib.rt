@@ -14,7 +14,7 @@ pub const BLOCK_CAP: u64 = 63;
 
 pub const HAS_NEXT: u64 = 1;
 
-#[derive(Clone, Copy)]
+#[derive(Clone, Copy, PartialEq, Eq)]
 pub struct Index {
     pub raw: u64,
 }

@@ -9,6 +9,7 @@ use Rattle.memory.specs.Layout.{token, state, next, has, or}
 use Rattle.memory.specs.Touch.{Touch, leaves, writes_state, frees}
 use Rattle.memory.specs.declared.Mark.TheVariants.{Write, Read, Destroy}
 use Rattle.ring.specs.Ring.{entered}
+use Rattle.state.specs.Answers.{answered}
 use Rattle.state.specs.Move.{Move, Step, on, ends, with_head, with_head_block, settled}
 use Rattle.state.specs.declared.Queue.{Queue}
 use Rattle.state.specs.declared.Kind.{Kind}
@@ -152,8 +153,7 @@ s10 q m t k c slot = s10_took q t (set t.taken (slot - first c) (token m c.block
 
 -- the answer of a call that has won
 abbrev pub answer_of : Won → Answer
-answer_of (Task token) = Rattle.state.specs.declared.Answer.TheVariants.Task token
-answer_of Moved = Rattle.state.specs.declared.Answer.TheVariants.Moved
+answer_of won = answered won
 
 -- S11 or READ; DESTROY seen: walk at once
 abbrev pub s11_marked : Queue → Won → Claim → ℕ → Touch → Move

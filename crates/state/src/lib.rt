@@ -3,7 +3,7 @@
 #![tactic(auto)]
 
 ghost use Rattle.std.specs.Prelude.{◌≡◌};
-ghost use Rattle.state.specs.Answers.{number};
+ghost use Rattle.state.specs.Answers.{answered, number};
 ghost use Rattle.state.specs.Move.{settle};
 
 use index::Index;
@@ -185,6 +185,17 @@ pub enum Answer {
     Yes,
     No,
     Refused(Refusal),
+}
+
+impl From<Won> for Answer {
+    ghost from_gives = { λ won answer. answer ≡ answered won };
+
+    fn from(won: Won) -> Answer {
+        match won {
+            Won::Task(task) => Answer::Task(task),
+            Won::Moved => Answer::Moved,
+        }
+    }
 }
 
 // What one line makes of the shared words and of its own call; `call` is Idle exactly where `answer` is not Open.
