@@ -1,27 +1,25 @@
--- What the loop of `enter` has made of the ring's cells: the first `j` tokens of the batch, in their order, stand behind those that it held.
-use Rattle.std.specs.Prelude.{ℕ, ◌+◌, ◌-◌, ◌≤◌, ◌<◌, ◌≡◌, List, length, get_or, set}
-use Rattle.std.proofs.Common.{sym, arith, add-one}
-use Rattle.std.proofs.lemmas.List.Edits.{sets}
-use Rattle.std.proofs.Math.Seq.{slice, paste, paste-suc}
-use Rattle.ring.specs.declared.Flavor.{Flavor}
-use Rattle.ring.specs.Ring.{in_order, place_of}
-use Rattle.ring.specs.Laws.{length_arriving, in_order-at, sets-paste}
+-- What `enter` makes of a ring: the batch's tokens, in the order in which they enter, over the cells behind those in use.
+use Rattle.std.specs.Prelude.{ℕ, ◌+◌, ◌-◌, ◌≤◌, ◌≡◌, refl, List, length}
+use Rattle.std.proofs.Common.{arith}
+use Rattle.std.proofs.lemmas.Slice.{between_is, put_mid-paste}
+use Rattle.std.proofs.Math.Seq.{slice}
+use Rattle.std.specs.List.{between}
+use borrow.Rule.Slice.PartMut.{put_mid}
+use Rattle.ring.specs.declared.Ring.{Ring}
+use Rattle.ring.specs.Ring.{in_order, entered}
+use Rattle.ring.specs.Laws.{length_arriving, sets-paste}
 
-module _ (tokens : List ℕ) (count : ℕ) (f : Flavor) (batch : List ℕ) (first end : ℕ) where
-  abbrev pub arriving : List ℕ
-  arriving = in_order f (slice first end batch)
-
-  abbrev pub copied : ℕ → List ℕ
-  copied j = paste tokens count arriving j
-
-  pub copied_more : (j : ℕ) → end ≤ length batch → first + j < end → count + j < length tokens
-      → set (copied j) (count + j) (get_or batch (place_of f first end j) 0) ≡ copied (j + 1)
-  copied_more j fits inside room =
-      let n : length arriving ≡ end - first = length_arriving f batch first end fits in
-      rw (add-one, ← (in_order-at f batch first end j fits inside))
-      (paste-suc tokens count arriving j 0 room (omega arith))
-
-  pub copied_all : end ≤ length batch → count + (end - first) ≤ length tokens → copied (end - first) ≡ sets tokens count arriving
-  copied_all fits room =
-      let n : length arriving ≡ end - first = length_arriving f batch first end fits in
-      rw (← n) (sym (sets-paste tokens count arriving (rw n room)))
+pub enters : (r : Ring) (batch : List ℕ) (first end : ℕ) (written : List ℕ)
+    → written ≡ in_order r.flavor (between first end batch) → end ≤ length batch → r.count + (end - first) ≤ length r.tokens
+    → record {
+      tokens = put_mid r.count (r.count + (end - first) - r.count) r.tokens written;
+      count = r.count + (end - first);
+      flavor = r.flavor;
+    } ≡ entered r batch first end
+unfolding entered
+enters r batch first end written e fits room =
+    let vs : List ℕ = in_order r.flavor (slice first end batch) in
+    let n : length vs ≡ end - first = length_arriving r.flavor batch first end fits in
+    let k : length vs ≡ r.count + (end - first) - r.count = omega arith in
+    let copied = put_mid-paste r.count _ r.tokens written vs (length vs) (rw between_is at e) k refl in
+    rw (copied, sets-paste r.tokens r.count vs (omega arith))

@@ -1,8 +1,8 @@
 // A thread's own ring: what a batch moved, for its owner alone. The Rust's `Worker`, on which nobody steals.
 #![tactic(auto)]
 
-ghost use Rattle.std.specs.Prelude.{◌≡◌, ◌+◌, ◌-◌, ◌<◌, ◌≤◌, get_or};
-ghost use Rattle.ring.specs.Ring.{empty_ring, entered, place_of, popped, shifted};
+ghost use Rattle.std.specs.Prelude.{◌≡◌, ◌+◌, ◌-◌, ◌≤◌};
+ghost use Rattle.ring.specs.Ring.{empty_ring, entered, popped};
 
 pub const RING_CAP: u64 = 64;
 
@@ -25,18 +25,6 @@ pub struct RingPop {
     pub token: Option<u64>,
 }
 
-fn shift(tokens: [u64; 64]) -> [u64; 64]
-    ensures { result ≡ shifted tokens }
-{
-    let mut out = tokens;
-    let mut i: usize = 0;
-    while i < 63 {
-        out[i] = out[i + 1];
-        i += 1;
-    }
-    out
-}
-
 impl Ring {
     pub fn new(flavor: Flavor) -> Ring
         ensures { result ≡ empty_ring flavor }
@@ -50,6 +38,7 @@ impl Ring {
 
     // A batch moves in behind what the ring holds: the tokens of `batch` from `first` up to `end`, Fifo in order, Lifo reversed.
     // The step machine tests what is required on the list of broken states, before a call's tokens are handed over.
+    #[tactic(auto, using(crate::proofs::Entering::enters))]
     pub fn enter(self, batch: [u64; 63], first: u64, end: u64) -> Ring
         // the places are those of a claim, and a claim lies within one block of 63 slots
         requires first_le_end { (first ≤ end) × (end ≤ 63) }
@@ -57,86 +46,48 @@ impl Ring {
         requires first_bound { self.count + (end - first) ≤ 64 }
         ensures { result ≡ entered self batch first end }
     {
+        let count = self.count as usize;
+        let held = count + (end - first) as usize;
         let mut tokens = self.tokens;
-        let count = self.count;
-        let flavor = self.flavor;
-        let n = end - first;
-        let mut j: u64 = 0;
-        while j < n {
-            let from = place(flavor, first, end, j) as usize;
-            let to = (count + j) as usize;
-            tokens[to] = batch[from];
-            j += 1;
+        let behind = &mut tokens[count..held];
+        behind.copy_from_slice(&batch[first as usize..end as usize]);
+        match self.flavor {
+            Flavor::Fifo => {}
+            Flavor::Lifo => behind.reverse(),
         }
-        let held = count + n;
         Ring {
             tokens,
-            count: held,
-            flavor,
+            count: held as u64,
+            ..self
         }
     }
 
     // The owner's pop: Fifo the oldest, Lifo the newest.
+    #[tactic(auto, unfolding(crate::specs::Ring::popped))]
     pub fn pop(self) -> RingPop
         ensures { result ≡ popped self }
     {
-        let count = self.count;
-        let tokens = self.tokens;
-        let flavor = self.flavor;
-        if count == 0 {
+        let Some(left) = self.count.checked_sub(1) else {
             return RingPop {
                 ring: self,
                 token: None,
             };
-        }
-        let left = count - 1;
-        match flavor {
+        };
+        let mut ring = Ring {
+            count: left,
+            ..self
+        };
+        let token = match self.flavor {
             Flavor::Fifo => {
-                let oldest = tokens[0];
-                let rest = shift(tokens);
-                RingPop {
-                    ring: Ring {
-                        tokens: rest,
-                        count: left,
-                        flavor,
-                    },
-                    token: Some(oldest),
-                }
+                ring.tokens.copy_within(1.., 0);
+                self.tokens[0]
             }
-            Flavor::Lifo => {
-                let newest = last(tokens, left);
-                RingPop {
-                    ring: Ring {
-                        tokens,
-                        count: left,
-                        flavor,
-                    },
-                    token: Some(newest),
-                }
-            }
+            // a count past the ring's end reads 0
+            Flavor::Lifo => self.tokens.get(left as usize).copied().unwrap_or(0),
+        };
+        RingPop {
+            ring,
+            token: Some(token),
         }
     }
-}
-
-// Where in the batch the token stands that enters as number `j`.
-fn place(flavor: Flavor, first: u64, end: u64, j: u64) -> u64
-    // a token enters only from within the claim: the loop that asks stops at the claim's size
-    requires { first + j < end }
-    ensures { (result ≡ place_of flavor first end j) × (result < end) }
-{
-    match flavor {
-        Flavor::Fifo => first + j,
-        Flavor::Lifo => end - 1 - j,
-    }
-}
-
-// A count past the ring's end reads 0.
-fn last(tokens: [u64; 64], at: u64) -> u64
-    ensures { result ≡ get_or tokens at 0 }
-{
-    if at < RING_CAP {
-        let i = at as usize;
-        return tokens[i];
-    }
-    0
 }
