@@ -9,9 +9,9 @@ use Rattle.state.specs.declared.Kind.{Kind}
 use Rattle.state.specs.declared.Refusal.{Refusal}
 use Rattle.state.specs.declared.Refusal.TheVariants.{Busy, NoLimit, NoRoom}
 use Rattle.machine.specs.declared.Request.{Request}
-use Rattle.machine.specs.declared.Begun.{Begun}
+use Rattle.machine.specs.declared.Given.{Given}
 use Rattle.machine.specs.Step.{is_idle}
-use Rattle.machine.specs.Entry.{tested, tested_as, not_begun, begun, begin_tested, begin_entry}
+use Rattle.machine.specs.Entry.{tested, tested_as, not_given, begun, begin_tested, begin_entry}
 use Rattle.entry.specs.Standing.{or_busy, tested_idle}
 
 abbrev pub or_limit : Kind → ℕ → Result Unit Refusal → Result Unit Refusal
@@ -26,13 +26,13 @@ module _ (t : Thread) (what : Request) where
   abbrev asked : Bool → Bool → Bool → Result Unit Refusal
   asked idle limit room = cond idle (cond limit (cond room (Ok tt) (Err NoRoom)) (Err NoLimit)) (Err Busy)
 
-  abbrev given : Bool → Bool → Bool → Begun
-  given idle limit room = cond idle (cond limit (cond room (begun t what) (not_begun t NoRoom)) (not_begun t NoLimit)) (not_begun t Busy)
+  abbrev given : Bool → Bool → Bool → Given Unit
+  given idle limit room = cond idle (cond limit (cond room (begun t what) (not_given t NoRoom)) (not_given t NoLimit)) (not_given t Busy)
 
-  told : {s r : Refusal} → Err s ≡ Err r → not_begun t s ≡ not_begun t r
-  told {s} {r} e = let z : s ≡ r = cc in ap (not_begun t) z
+  told : {s r : Refusal} → Err s ≡ Err r → not_given t s ≡ not_given t r
+  told {s} {r} e = let z : s ≡ r = cc in ap (not_given t) z
 
-  given-refused : (idle limit room : Bool) (r : Refusal) → asked idle limit room ≡ Err r → given idle limit room ≡ not_begun t r
+  given-refused : (idle limit room : Bool) (r : Refusal) → asked idle limit room ≡ Err r → given idle limit room ≡ not_given t r
   given-refused true true true r e = absurd (let z : ◌≡◌ {A = ℕ} 0 1 = cc in omega arith)
   given-refused true true false r e = told e
   given-refused true false room r e = told e
@@ -49,7 +49,7 @@ module _ (t : Thread) (what : Request) where
   grouped k count true = refl
   grouped k count false = refl
 
-  by-refused : (x : Result Unit Refusal) (r : Refusal) → or_limit (tested_as what) t.ring.count (or_busy t x) ≡ Err r → begin_tested t what x ≡ not_begun t r
+  by-refused : (x : Result Unit Refusal) (r : Refusal) → or_limit (tested_as what) t.ring.count (or_busy t x) ≡ Err r → begin_tested t what x ≡ not_given t r
   by-refused (Err s) r e = told e
   by-refused (Ok tt) r e =
       given-refused (is_idle t.call) (limit_good (tested_as what)) (room_good (tested_as what) t.ring.count) r
@@ -62,7 +62,7 @@ module _ (t : Thread) (what : Request) where
       (rw grouped at e)
 
 module _ (q : Queue) (m : List ℕ) (t : Thread) (n : ℕ) (what : Request) where
-  pub begin_refused : {r : Refusal} → tested_begin q m t n what ≡ Err r → begin_entry q m t n what ≡ not_begun t r
+  pub begin_refused : {r : Refusal} → tested_begin q m t n what ≡ Err r → begin_entry q m t n what ≡ not_given t r
   unfolding tested_begin tested_idle begin_entry
   begin_refused {r} e = by-refused t what (tested q m t n) r e
 

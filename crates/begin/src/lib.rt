@@ -5,9 +5,9 @@ ghost use Rattle.std.specs.Prelude.{◌≡◌};
 ghost use Rattle.machine.specs.Entry.{tested_as, begin_entry};
 ghost use Rattle.begin.specs.Asked.{tested_begin};
 
-use calling::{begun, not_begun};
+use calling::begun;
 use entry::test_idle;
-use machine::{Begun, Request};
+use machine::{Given, Request, not_given};
 use state::{Kind, Queue, Refusal, Thread};
 
 fn tested_as(what: Request) -> Kind
@@ -44,12 +44,12 @@ fn test_begin(q: Queue, pool: &[u64], thread: Thread, number: u64, what: Request
 }
 
 // Opens a call at its first line; it makes no step.
-pub fn begin(q: Queue, pool: &[u64], thread: Thread, number: u64, what: Request) -> Begun
+pub fn begin(q: Queue, pool: &[u64], thread: Thread, number: u64, what: Request) -> Given<()>
     ensures { result ≡ begin_entry q pool.now thread number what }
 {
     let tested = test_begin(q, pool, thread, number, what);
     if let Err(refusal) = tested {
-        return not_begun(thread, refusal);
+        return not_given(thread, refusal);
     }
     begun(thread, what)
 }

@@ -2,10 +2,10 @@
 #![tactic(auto)]
 
 ghost use Rattle.std.specs.Prelude.{◌≡◌};
-ghost use Rattle.machine.specs.Entry.{opened, not_begun, begun};
+ghost use Rattle.machine.specs.Entry.{opened, begun};
 
-use machine::{Begun, Request};
-use state::{Call, EmptyLine, Kind, LengthLine, PushLine, Refusal, StealLine, Thread};
+use machine::{Given, Request};
+use state::{Call, EmptyLine, Kind, LengthLine, PushLine, StealLine, Thread};
 
 fn open(what: Request) -> Call
     ensures { result ≡ opened what }
@@ -20,22 +20,13 @@ fn open(what: Request) -> Call
     }
 }
 
-pub fn not_begun(thread: Thread, refusal: Refusal) -> Begun
-    ensures { result ≡ not_begun thread refusal }
-{
-    Begun {
-        thread,
-        answer: Err(refusal),
-    }
-}
-
-pub fn begun(thread: Thread, what: Request) -> Begun
+pub fn begun(thread: Thread, what: Request) -> Given<()>
     ensures { result ≡ begun thread what }
 {
     let ring = thread.ring;
     let taken = thread.taken;
     let call = open(what);
-    Begun {
+    Given {
         thread: Thread { ring, call, taken },
         answer: Ok(()),
     }

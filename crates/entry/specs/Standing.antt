@@ -1,15 +1,15 @@
 -- The tests of an entry that goes on with a call, and of one that wants none open: the first three, then IDLE or BUSY.
 -- Below them, that the entries are defined so.
-use Rattle.std.specs.Prelude.{ℕ, ◌≡◌, refl, Bool, true, false, cond, List, Result, Ok, Err}
+use Rattle.std.specs.Prelude.{Option, ℕ, ◌≡◌, refl, Bool, true, false, cond, List, Result, Ok, Err}
 use Rattle.std.proofs.Common.{ap, arith}
 use Rattle.ring.specs.Ring.{popped}
 use Rattle.state.specs.declared.Queue.{Queue}
 use Rattle.state.specs.declared.Thread.{Thread}
 use Rattle.state.specs.declared.Refusal.{Refusal}
 use Rattle.state.specs.declared.Refusal.TheVariants.{Idle, Busy}
-use Rattle.machine.specs.declared.RingPopped.{RingPopped}
+use Rattle.machine.specs.declared.Given.{Given}
 use Rattle.machine.specs.Step.{After, is_idle, once, step_of, run_from}
-use Rattle.machine.specs.Entry.{tested, refused_after, step_tested, step_entry, run_tested, run_entry, after_pop, not_popped, pop_tested, pop_entry}
+use Rattle.machine.specs.Entry.{tested, refused_after, step_tested, step_entry, run_tested, run_entry, after_pop, not_given, pop_tested, pop_entry}
 
 abbrev pub or_idle : Thread → Result Unit Refusal → Result Unit Refusal
 or_idle t (Err r) = Err r
@@ -86,9 +86,9 @@ module _ (q : Queue) (m : List ℕ) (t : Thread) (r : Refusal) where
   run_by budget (Err s) e = let z : s ≡ r = cc in ap (refused_after q m t) z
   run_by budget (Ok tt) e = refuses_left {A = After} (refused_after q m t) (run_from budget q m t) (is_idle t.call) r Idle e
 
-  pop-by : (x : Result Unit Refusal) → or_busy t x ≡ Err r → pop_tested t x ≡ not_popped t r
-  pop-by (Err s) e = let z : s ≡ r = cc in ap (not_popped t) z
-  pop-by (Ok tt) e = refuses_right {A = RingPopped} (not_popped t) (after_pop t (popped t.ring)) (is_idle t.call) r Busy e
+  pop-by : (x : Result Unit Refusal) → or_busy t x ≡ Err r → pop_tested t x ≡ not_given t r
+  pop-by (Err s) e = let z : s ≡ r = cc in ap (not_given t) z
+  pop-by (Ok tt) e = refuses_right {A = Given (Option ℕ)} (not_given t) (after_pop t (popped t.ring)) (is_idle t.call) r Busy e
 
 module _ (q : Queue) (m : List ℕ) (t : Thread) (n : ℕ) {r : Refusal} where
   pub step-not_open : tested_open q m t n ≡ Err r → step_entry q m t n ≡ refused_after q m t r
@@ -99,6 +99,6 @@ module _ (q : Queue) (m : List ℕ) (t : Thread) (n : ℕ) {r : Refusal} where
   unfolding tested_open run_entry
   run-not_open budget e = run_by q m t r budget (tested q m t n) e
 
-  pub pop-not-idle : tested_idle q m t n ≡ Err r → pop_entry q m t n ≡ not_popped t r
+  pub pop-not-idle : tested_idle q m t n ≡ Err r → pop_entry q m t n ≡ not_given t r
   unfolding tested_idle pop_entry
   pop-not-idle e = pop-by q m t r (tested q m t n) e

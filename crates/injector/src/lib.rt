@@ -6,7 +6,7 @@
 pub use audit::audit;
 pub use begin::begin;
 pub use idle::idle_thread;
-pub use machine::{Begun, Ran, Request, RingPopped, Started};
+pub use machine::{Given, Ran, Request, Started};
 pub use pop::pop;
 pub use run::run;
 pub use start::setup;

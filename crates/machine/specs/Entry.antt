@@ -1,5 +1,5 @@
 -- The public entries, with document 01's refusals 1 to 7 in their order. A refused entry changes nothing.
-use Rattle.std.specs.Prelude.{ℕ, cond, List, length, replicate, ltb, None, Result, Ok, Err}
+use Rattle.std.specs.Prelude.{Option, ℕ, cond, List, length, replicate, ltb, None, Result, Ok, Err}
 use Rattle.memory.specs.Pool.{fresh}
 use Rattle.ring.specs.Ring.{empty_ring, popped}
 use Rattle.ring.specs.declared.Flavor.{Flavor}
@@ -19,8 +19,7 @@ use Rattle.state.specs.declared.Refusal.{Refusal}
 use Rattle.state.specs.declared.Refusal.TheVariants.{BadSetup, BadState, NoThread, Busy, NoLimit, NoRoom}
 use Rattle.state.specs.declared.Thread.{Thread}
 use Rattle.machine.specs.declared.Request.{Request}
-use Rattle.machine.specs.declared.Begun.{Begun}
-use Rattle.machine.specs.declared.RingPopped.{RingPopped}
+use Rattle.machine.specs.declared.Given.{Given}
 use Rattle.machine.specs.declared.Started.{Started}
 use Rattle.machine.specs.Step.{After, done, once, step_of, run_from, is_idle}
 
@@ -98,34 +97,31 @@ tested_as (Request.Take limit) = Take limit
 tested_as Request.Len = Steal
 tested_as Request.Empty = Steal
 
-abbrev pub not_begun : Thread → Refusal → Begun
-not_begun t r = record { thread = t; answer = Err r }
+abbrev pub not_given : {T : Type 0} → Thread → Refusal → Given T
+not_given t r = record { thread = t; answer = Err r }
 
-abbrev pub begun : Thread → Request → Begun
+abbrev pub begun : Thread → Request → Given Unit
 begun t what = record { thread = record { ring = t.ring; call = opened what; taken = t.taken }; answer = Ok tt }
 
-abbrev pub begin_tested : Thread → Request → Result Unit Refusal → Begun
-begin_tested t what (Err r) = not_begun t r
+abbrev pub begin_tested : Thread → Request → Result Unit Refusal → Given Unit
+begin_tested t what (Err r) = not_given t r
 begin_tested t what (Ok tt) =
     cond (is_idle t.call)
     (cond (limit_good (tested_as what))
-    (cond (room_good (tested_as what) t.ring.count) (begun t what) (not_begun t NoRoom))
-    (not_begun t NoLimit))
-    (not_begun t Busy)
+    (cond (room_good (tested_as what) t.ring.count) (begun t what) (not_given t NoRoom))
+    (not_given t NoLimit))
+    (not_given t Busy)
 
-unfoldable pub begin_entry : Queue → List ℕ → Thread → ℕ → Request → Begun
+unfoldable pub begin_entry : Queue → List ℕ → Thread → ℕ → Request → Given Unit
 begin_entry q m t n what = begin_tested t what (tested q m t n)
 
 -- ring pop: 1, 2, 3, then BUSY
-abbrev pub after_pop : Thread → RingPop → RingPopped
+abbrev pub after_pop : Thread → RingPop → Given (Option ℕ)
 after_pop t p = record { thread = record { ring = p.ring; call = t.call; taken = t.taken }; answer = Ok p.token }
 
-abbrev pub not_popped : Thread → Refusal → RingPopped
-not_popped t r = record { thread = t; answer = Err r }
+abbrev pub pop_tested : Thread → Result Unit Refusal → Given (Option ℕ)
+pop_tested t (Err r) = not_given t r
+pop_tested t (Ok tt) = cond (is_idle t.call) (after_pop t (popped t.ring)) (not_given t Busy)
 
-abbrev pub pop_tested : Thread → Result Unit Refusal → RingPopped
-pop_tested t (Err r) = not_popped t r
-pop_tested t (Ok tt) = cond (is_idle t.call) (after_pop t (popped t.ring)) (not_popped t Busy)
-
-unfoldable pub pop_entry : Queue → List ℕ → Thread → ℕ → RingPopped
+unfoldable pub pop_entry : Queue → List ℕ → Thread → ℕ → Given (Option ℕ)
 pop_entry q m t n = pop_tested t (tested q m t n)

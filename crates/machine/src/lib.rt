@@ -6,6 +6,7 @@ ghost use Rattle.std.specs.Prelude.{◌≡◌};
 ghost use Rattle.memory.specs.Touch.{leaves};
 ghost use Rattle.state.specs.declared.Answer.TheVariants.{Open};
 ghost use Rattle.state.specs.Move as move;
+ghost use Rattle.machine.specs.Entry.{not_given};
 
 use state::{Answer, Call, Made, Queue, Refusal, Thread};
 
@@ -22,16 +23,11 @@ pub enum Request {
     Empty,
 }
 
+// What an entry that makes no step gives back: a begin its Ok alone, a ring pop the token, if there was one.
 #[derive(Clone, Copy)]
-pub struct Begun {
+pub struct Given<T> {
     pub thread: Thread,
-    pub answer: Result<(), Refusal>,
-}
-
-#[derive(Clone, Copy)]
-pub struct RingPopped {
-    pub thread: Thread,
-    pub answer: Result<Option<u64>, Refusal>,
+    pub answer: Result<T, Refusal>,
 }
 
 // What a step or a run gives back; `steps` is the number of table lines made.
@@ -47,6 +43,16 @@ pub struct Ran {
 pub struct Started {
     pub queue: Queue,
     pub answer: Result<(), Refusal>,
+}
+
+// A refused entry hands the thread back as it was.
+pub fn not_given<T>(thread: Thread, refusal: Refusal) -> Given<T>
+    ensures { result ≡ not_given thread refusal }
+{
+    Given {
+        thread,
+        answer: Err(refusal),
+    }
 }
 
 // A line's call goes on at a line of its own kind.

@@ -1,5 +1,5 @@
 -- What may be asked keeps the board tied to the ghost and the notes; a refused entry changes nothing.
-use Rattle.std.specs.Prelude.{Result, Ok, Err}
+use Rattle.std.specs.Prelude.{Option, Result, Ok, Err}
 use Prim.Native.Nat.{ℕ, ◌<◌}
 use mathlib.Core.Path.{◌≡◌, refl, sym, ap, subst, ◌∙◌}
 use mathlib.Core.Bool.{Bool, true, false, cond}
@@ -26,8 +26,7 @@ use Rattle.machine.specs.Step.{After, step_of, once, run_from, is_idle, is_open}
 use Rattle.machine.specs.Entry.{tested, idle_thread, refused_after, step_tested, step_entry, run_tested, run_entry}
 use Rattle.machine.specs.Entry.{opened, tested_as, begun, begin_tested, begin_entry, after_pop, pop_tested, pop_entry}
 use Rattle.machine.specs.declared.Request.{Request}
-use Rattle.machine.specs.declared.Begun.{Begun}
-use Rattle.machine.specs.declared.RingPopped.{RingPopped}
+use Rattle.machine.specs.declared.Given.{Given}
 use Rattle.history.specs.Board.{Board, Ask, begins, pops, steps, runs, thread_at, ran, with_thread, asked}
 use Rattle.history.specs.Log.{Note, notes_of}
 use Rattle.history.specs.History.{run_notes, unless_refused, asked_notes}
@@ -193,11 +192,11 @@ module _ (flavors : List Flavor) (blocks ceiling : ℕ) where
     begin_by : (what : Request) (r : Result Unit Refusal) → tested q m t n ≡ r → Kept (with_thread w n (begin_tested t what r).thread) c []
     begin_by what (Err r) e = refused
     begin_by what (Ok tt) e =
-        cond_elim (λ (b : Begun). Kept (with_thread w n b.thread) c []) (is_idle t.call) _ _
+        cond_elim (λ (b : Given Unit). Kept (with_thread w n b.thread) c []) (is_idle t.call) _ _
         (λ idle.
-        cond_elim (λ (b : Begun). Kept (with_thread w n b.thread) c []) (limit_good (tested_as what)) _ _
+        cond_elim (λ (b : Given Unit). Kept (with_thread w n b.thread) c []) (limit_good (tested_as what)) _ _
         (λ limit.
-        cond_elim (λ (b : Begun). Kept (with_thread w n b.thread) c []) (room_good (tested_as what) t.ring.count) _ _
+        cond_elim (λ (b : Given Unit). Kept (with_thread w n b.thread) c []) (room_good (tested_as what) t.ring.count) _ _
         (λ room.
         changed (begun t what).thread e
         (record {
@@ -212,7 +211,7 @@ module _ (flavors : List Flavor) (blocks ceiling : ℕ) where
     pop-by : (r : Result Unit Refusal) → tested q m t n ≡ r → Kept (with_thread w n (pop_tested t r).thread) c []
     pop-by (Err r) e = refused
     pop-by (Ok tt) e =
-        cond_elim (λ (p : RingPopped). Kept (with_thread w n p.thread) c []) (is_idle t.call) _ _
+        cond_elim (λ (p : Given (Option ℕ)). Kept (with_thread w n p.thread) c []) (is_idle t.call) _ _
         (λ idle.
         changed (after_pop t (popped t.ring)).thread e
         (record {

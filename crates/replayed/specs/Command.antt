@@ -8,8 +8,7 @@ use Rattle.state.specs.declared.Refusal.{Refusal}
 use Rattle.machine.specs.Step.{After}
 use Rattle.machine.specs.Entry.{step_entry, run_entry, begin_entry, pop_entry}
 use Rattle.machine.specs.declared.Request.{Request}
-use Rattle.machine.specs.declared.Begun.{Begun}
-use Rattle.machine.specs.declared.RingPopped.{RingPopped}
+use Rattle.machine.specs.declared.Given.{Given}
 use Rattle.text.specs.declared.Command.{Command}
 use Rattle.text.specs.declared.Word.{Word}
 use Rattle.text.specs.Print.{line_bytes, line_number_bytes}
@@ -56,10 +55,10 @@ ran_done still a =
       pool = a.pool;
     }
 
-abbrev pub begun_done : Queue → List ℕ → Begun → Ordered
+abbrev pub begun_done : Queue → List ℕ → Given Unit → Ordered
 begun_done q m b = record { done = record { queue = q; thread = b.thread; said = began_said b.answer; steps = 0 }; pool = m }
 
-abbrev pub popped_done : Queue → List ℕ → RingPopped → Ordered
+abbrev pub popped_done : Queue → List ℕ → Given (Option ℕ) → Ordered
 popped_done q m p = record { done = record { queue = q; thread = p.thread; said = popped_said p.answer; steps = 0 }; pool = m }
 
 -- the commands of one thread n, whose record is t

@@ -1,5 +1,5 @@
 -- Every board of a history is whole: a fresh start is, and whatever may be asked keeps it.
-use Rattle.std.specs.Prelude.{Result, Ok, Err}
+use Rattle.std.specs.Prelude.{Option, Result, Ok, Err}
 use Rattle.state.specs.declared.Refusal.{Refusal}
 use Prim.Native.Nat.{ℕ, zero, suc, ◌≤◌, ◌<◌}
 use mathlib.Core.Path.{◌≡◌, refl, sym, ap, subst, ◌∙◌}
@@ -20,8 +20,7 @@ use Rattle.machine.specs.Step.{After, step_of, once, counted, run_from, is_idle,
 use Rattle.machine.specs.Entry.{idle_thread, tested, step_tested, step_entry, run_tested, run_entry}
 use Rattle.machine.specs.Entry.{tested_as, begun, begin_tested, begin_entry, after_pop, pop_tested, pop_entry}
 use Rattle.machine.specs.declared.Request.{Request}
-use Rattle.machine.specs.declared.Begun.{Begun}
-use Rattle.machine.specs.declared.RingPopped.{RingPopped}
+use Rattle.machine.specs.declared.Given.{Given}
 use Rattle.history.specs.Board.{Board, Ask, begins, pops, steps, runs, start, thread_at, ran, with_thread, asked}
 use Rattle.history.specs.History.{board}
 use Rattle.invariant.specs.Ghost.{Ghost}
@@ -200,11 +199,11 @@ module _ (w : Board) (h : Whole w) (n : ℕ) where
   begin_by : (what : Request) (r : Result Unit Refusal) → Whole (with_thread w n (begin_tested t what r).thread)
   begin_by what (Err r) = refused
   begin_by what (Ok tt) =
-      cond_elim (λ (b : Begun). Whole (with_thread w n b.thread)) (is_idle t.call) _ _
+      cond_elim (λ (b : Given Unit). Whole (with_thread w n b.thread)) (is_idle t.call) _ _
       (λ idle.
-      cond_elim (λ (b : Begun). Whole (with_thread w n b.thread)) (limit_good (tested_as what)) _ _
+      cond_elim (λ (b : Given Unit). Whole (with_thread w n b.thread)) (limit_good (tested_as what)) _ _
       (λ limit.
-      cond_elim (λ (b : Begun). Whole (with_thread w n b.thread)) (room_good (tested_as what) t.ring.count) _ _
+      cond_elim (λ (b : Given Unit). Whole (with_thread w n b.thread)) (room_good (tested_as what) t.ring.count) _ _
       (λ room.
       changed (begun t what).thread (begun_ok (state_at q m h.ghost) n t what (h.threads n) limit room)
       (begun-owed (state_at q m h.ghost) n (λ j. (thread_at w j).call) t what (idle-is t.call idle) h.owed))
@@ -215,7 +214,7 @@ module _ (w : Board) (h : Whole w) (n : ℕ) where
   pop-by : (r : Result Unit Refusal) → Whole (with_thread w n (pop_tested t r).thread)
   pop-by (Err r) = refused
   pop-by (Ok tt) =
-      cond_elim (λ (p : RingPopped). Whole (with_thread w n p.thread)) (is_idle t.call) _ _
+      cond_elim (λ (p : Given (Option ℕ)). Whole (with_thread w n p.thread)) (is_idle t.call) _ _
       (λ idle.
       changed (after_pop t (popped t.ring)).thread (popped-ok (state_at q m h.ghost) n t (h.threads n) (idle-is t.call idle))
       (popped-owed (state_at q m h.ghost) n (λ j. (thread_at w j).call) t (popped t.ring) refl h.owed))

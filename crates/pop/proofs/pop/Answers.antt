@@ -4,7 +4,7 @@ use Rattle.entry.specs.Standing.{is_vacant, pop-not-idle}
 use Rattle.pop.proofs.pop.Goals as goal
 
 pub returns-in-Err : goal.returns-in-Err
-returns-in-Err c = c.not_popped.ensures ∙ sym (pop-not-idle _ _ _ _ (sym c.in-Err.ensures))
+returns-in-Err c = c.not_given.ensures ∙ sym (pop-not-idle _ _ _ _ (sym c.in-Err.ensures))
 
 pub returns : goal.returns
 returns c =
