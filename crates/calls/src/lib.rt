@@ -43,10 +43,7 @@ fn block_good(q: Queue, block: u64) -> bool
 fn held_good(q: Queue, held: Option<u64>) -> bool
     ensures { result ≡ held_good q held }
 {
-    match held {
-        None => true,
-        Some(block) => block_good(q, block),
-    }
+    held.is_none_or(|block| block_good(q, block))
 }
 
 fn loaded_good(q: Queue, i: Index) -> bool
@@ -71,17 +68,7 @@ fn place_good(q: Queue, i: Index, block: u64) -> bool
 fn holds_at_last(t: Index, held: Option<u64>) -> bool
     ensures { result ≡ holds_at_last t held }
 {
-    match held {
-        None => t.offset() != 62,
-        Some(_) => true,
-    }
-}
-
-// P4, P8 and P9: a block may be held.
-fn may_hold(q: Queue, t: Index, block: u64, held: Option<u64>) -> bool
-    ensures { result ≡ (slot_good q t && block_good q block && held_good q held) }
-{
-    place_good(q, t, block) && held_good(q, held)
+    held.is_some() || t.offset() != 62
 }
 
 #[tactic(auto, unfolding(state::specs::List::push_good))]
@@ -92,13 +79,15 @@ pub fn push_good(q: Queue, line: PushLine) -> bool
         PushLine::P1(_, held) => held_good(q, held),
         PushLine::P2(_, t, held) => loaded_good(q, t) && held_good(q, held),
         PushLine::P3(_, t, block) => place_good(q, t, block),
-        PushLine::P4(_, t, block, held) => may_hold(q, t, block, held) && holds_at_last(t, held),
+        PushLine::P4(_, t, block, held) => {
+            place_good(q, t, block) && held_good(q, held) && holds_at_last(t, held)
+        }
         PushLine::P5(_, t, block, held)
         | PushLine::P6(_, t, block, held)
         | PushLine::P7(_, t, block, held) => place_good(q, t, block) && block_good(q, held),
-        PushLine::P8(_, t, block, held) | PushLine::P9(_, t, block, held) => may_hold(
-            q, t, block, held,
-        ),
+        PushLine::P8(_, t, block, held) | PushLine::P9(_, t, block, held) => {
+            place_good(q, t, block) && held_good(q, held)
+        }
         PushLine::P10(held, _) => block_good(q, held),
     }
 }
@@ -151,16 +140,19 @@ pub fn steal_good(q: Queue, count: u64, line: StealLine) -> bool
         StealLine::S1(k) => open_good(k, count),
         StealLine::S2(k, h) => open_good(k, count) && loaded_good(q, h),
         StealLine::S3(k, h, block) => open_good(k, count) && place_good(q, h, block),
-        StealLine::S4(k, c, _) | StealLine::S5(k, c) | StealLine::S8(k, c, _) => claim_open(
-            q, count, k, c,
-        ),
-        StealLine::S6(k, c, next) | StealLine::S7(k, c, next, _) => claim_open(q, count, k, c)
-            && block_good(q, next),
-        StealLine::S9(k, c, slot) | StealLine::S10(k, c, slot) => claim_open(q, count, k, c)
-            && in_claim(c, slot),
+        StealLine::S4(k, c, _) | StealLine::S5(k, c) | StealLine::S8(k, c, _) => {
+            claim_open(q, count, k, c)
+        }
+        StealLine::S6(k, c, next) | StealLine::S7(k, c, next, _) => {
+            claim_open(q, count, k, c) && block_good(q, next)
+        }
+        StealLine::S9(k, c, slot) | StealLine::S10(k, c, slot) => {
+            claim_open(q, count, k, c) && in_claim(c, slot)
+        }
         StealLine::S11(_, c, slot) => claim_good(q, c) && in_claim(c, slot),
-        StealLine::S12(_, block, slot) | StealLine::S13(_, block, slot) => block_good(q, block)
-            && slot < index::BLOCK_CAP,
+        StealLine::S12(_, block, slot) | StealLine::S13(_, block, slot) => {
+            block_good(q, block) && slot < index::BLOCK_CAP
+        }
         StealLine::S14(_, block) => block_good(q, block),
     }
 }

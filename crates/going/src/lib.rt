@@ -11,5 +11,5 @@ use state::{Answer, Queue, Thread};
 pub fn goes_on(q: Queue, thread: Thread, answer: Answer) -> bool
     ensures { result ≡ (is_open answer && (shared_good q && record_good q thread)) }
 {
-    matches!(answer, Answer::Open) && (list::shared_good(q) && list::record_good(q, thread))
+    matches!(answer, Answer::Open) && list::shared_good(q) && list::record_good(q, thread)
 }

@@ -25,6 +25,7 @@ all_more t n =
     ∙ ap (λ (b : Bool). b && (t n && true)) (same (range_with_len 0 n))
     ∙ last_first (list_all t (range_with_len 0 n)) (t n)
 
+-- the definition counts down from n, the code up to it
 each : (m : List ℕ) (b n : ℕ) → list_all (λ (k : ℕ). next_good b (next m k)) (range_with_len 0 n) ≡ nexts_good m b n
 unfolding nexts_good
 each m b zero = refl
