@@ -2,51 +2,39 @@
 // no function here asks anything of its caller but that a sum or a product fits.
 #![tactic(auto)]
 
-ghost use Rattle.std.specs.Prelude.{◌≡◌, ℕ, ◌+◌, ◌*◌, ◌<◌, ◌≤◌, ◌^◌, get_or, set};
+ghost use Rattle.std.specs.Prelude.{◌≡◌, ℕ, ◌+◌, ◌*◌, ◌<◌, ◌≤◌, ◌-◌, ◌^◌, get_or, set, min};
 ghost use Rattle.memory.specs.Layout.{token, state, next, is_free};
 ghost use Rattle.memory.specs.Touch.{after, writes_token, links, frees};
 ghost use Rattle.memory.specs.Pool.{pool_len, table_len};
 
 pub const BLOCK_WORDS: u64 = 128;
-// No lent memory has FAR words or more, and so none has block number FAR_BLOCK: an address of less never wraps.
-pub const FAR: u64 = 0x1000_0000_0000_0000;
 
-const FAR_BLOCK: u64 = FAR / BLOCK_WORDS;
-
-// The bits of a slot's state: WRITE 1, READ 2, DESTROY 4.
+// The bits of a slot's state.
 #[derive(Clone, Copy)]
 pub enum Mark {
-    Write,
-    Read,
-    Destroy,
+    Write = 1,
+    Read = 2,
+    Destroy = 4,
+}
+
+// Where a word of a block stands. No lent memory reaches as far as the largest number.
+fn address(block: u64, place: u64) -> usize
+    ensures { result ≡ min (block * 128 + place) (2 ^ 64 - 1) }
+{
+    block.saturating_mul(BLOCK_WORDS).saturating_add(place) as usize
 }
 
 fn read(pool: &[u64], block: u64, place: u64) -> u64
     ensures { result ≡ get_or pool.now (block * 128 + place) 0 }
 {
-    if FAR_BLOCK <= block {
-        return 0;
-    }
-    if FAR <= place {
-        return 0;
-    }
-    let at = (block * BLOCK_WORDS + place) as usize;
-    if at < pool.len() {
-        return pool[at];
-    }
-    0
+    pool.get(address(block, place)).copied().unwrap_or(0)
 }
 
 pub fn store(pool: &mut [u64], block: u64, place: u64, word: u64)
     ensures { pool.new ≡ set pool.old (block * 128 + place) word }
 {
-    if FAR_BLOCK <= block {
-        return;
-    }
-    if FAR <= place {
-        return;
-    }
-    let at = (block * BLOCK_WORDS + place) as usize;
+    let at = address(block, place);
+    // an index: `get_mut` of a slice says nothing of what the slice ends as
     if at < pool.len() {
         pool[at] = word;
     }
@@ -67,20 +55,13 @@ pub fn write_token(pool: &mut [u64], block: u64, slot: u64, token: u64)
 pub fn state(pool: &[u64], block: u64, slot: u64) -> u64
     ensures { result ≡ state pool.now block slot }
 {
-    if FAR <= slot {
-        return 0;
-    }
-    read(pool, block, 64 + slot)
+    read(pool, block, slot.saturating_add(64))
 }
 
 pub fn next(pool: &[u64], block: u64) -> Option<u64>
     ensures { result ≡ next pool.now block }
 {
-    let word = read(pool, block, 63);
-    if word == 0 {
-        return None;
-    }
-    Some(word - 1)
+    read(pool, block, 63).checked_sub(1)
 }
 
 // `next` is stored as one more. The sum must fit, and a block's number is below the pool's size, far below the largest.
