@@ -13,16 +13,13 @@ use state::{Call, Queue, Refusal, Thread};
 pub fn test(q: Queue, pool: &[u64], thread: Thread, number: u64) -> Result<(), Refusal>
     ensures { result ≡ tested q pool.now thread number }
 {
-    let len = pool.len() as u64;
-    let threads = q.threads;
-    if !list::setup_good(q, len) {
+    if !list::setup_good(q, pool.len() as u64) {
         return Err(Refusal::BadSetup);
     }
-    let good = list::state_good(q, pool, thread);
-    if !good {
+    if !list::state_good(q, pool, thread) {
         return Err(Refusal::BadState);
     }
-    if threads <= number {
+    if q.threads <= number {
         return Err(Refusal::NoThread);
     }
     Ok(())
@@ -31,25 +28,15 @@ pub fn test(q: Queue, pool: &[u64], thread: Thread, number: u64) -> Result<(), R
 fn is_idle(call: Call) -> bool
     ensures { result ≡ is_idle call }
 {
-    match call {
-        Call::Idle => true,
-        Call::Push(_) => false,
-        Call::Steal(_) => false,
-        Call::Length(_) => false,
-        Call::Empty(_) => false,
-    }
+    matches!(call, Call::Idle)
 }
 
 #[tactic(auto, unfolding(crate::specs::Standing::tested_open))]
 pub fn test_open(q: Queue, pool: &[u64], thread: Thread, number: u64) -> Result<(), Refusal>
     ensures { result ≡ tested_open q pool.now thread number }
 {
-    let tested = test(q, pool, thread, number);
-    if let Err(refusal) = tested {
-        return Err(refusal);
-    }
-    let call = thread.call;
-    if is_idle(call) {
+    test(q, pool, thread, number)?;
+    if is_idle(thread.call) {
         return Err(Refusal::Idle);
     }
     Ok(())
@@ -59,12 +46,8 @@ pub fn test_open(q: Queue, pool: &[u64], thread: Thread, number: u64) -> Result<
 pub fn test_idle(q: Queue, pool: &[u64], thread: Thread, number: u64) -> Result<(), Refusal>
     ensures { result ≡ tested_idle q pool.now thread number }
 {
-    let tested = test(q, pool, thread, number);
-    if let Err(refusal) = tested {
-        return Err(refusal);
-    }
-    let call = thread.call;
-    if !is_idle(call) {
+    test(q, pool, thread, number)?;
+    if !is_idle(thread.call) {
         return Err(Refusal::Busy);
     }
     Ok(())
