@@ -8,9 +8,8 @@ ghost use Rattle.machine.specs.Steal as spec;
 
 use batch::{batch_advance, to_block_end};
 use index::{BLOCK_CAP, Index};
-use machine::ends;
 use machine::steals::{first, past};
-use machine::to;
+use machine::{ends, to};
 use span::same_position;
 use state::{Answer, Claim, Kind, Made, Queue, StealLine};
 
@@ -27,8 +26,7 @@ fn end_advance(kind: Kind, head: Index) -> u64
 {
     match kind {
         Kind::Steal => 1,
-        Kind::Batch(limit) => to_block_end(head, limit),
-        Kind::Take(limit) => to_block_end(head, limit),
+        Kind::Batch(limit) | Kind::Take(limit) => to_block_end(head, limit),
     }
 }
 
@@ -38,8 +36,7 @@ fn advance_of(kind: Kind, head: Index, tail: Index) -> u64
 {
     match kind {
         Kind::Steal => 1,
-        Kind::Batch(limit) => batch_advance(head, tail, limit),
-        Kind::Take(limit) => batch_advance(head, tail, limit),
+        Kind::Batch(limit) | Kind::Take(limit) => batch_advance(head, tail, limit),
     }
 }
 
@@ -90,12 +87,14 @@ pub fn s4(q: Queue, kind: Kind, claim: Claim, next: bool) -> Made
 {
     let seen = q.head;
     let head = claim.head;
-    if seen.raw != head.raw {
+    if seen != head {
         return ends(q, Answer::Retry);
     }
     let new_head = head.advance(claim.advance).with_next(next);
-    let mut moved = q;
-    moved.head = new_head;
+    let moved = Queue {
+        head: new_head,
+        ..q
+    };
     if past(claim) == BLOCK_CAP {
         return to(moved, StealLine::S5(kind, claim));
     }

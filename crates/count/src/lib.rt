@@ -6,29 +6,21 @@ ghost use Rattle.std.specs.Prelude.{◌≡◌};
 ghost use Rattle.machine.specs.Count as spec;
 
 use index::Index;
-use machine::ends;
-use state::{Answer, Call, EmptyLine, LengthLine, Made, Queue};
+use machine::{ends, to};
+use state::{Answer, EmptyLine, LengthLine, Made, Queue};
 
 fn l1(q: Queue) -> Made
     ensures { result ≡ (spec.l1 q).made }
 {
     let tail = q.tail;
-    Made {
-        queue: q,
-        call: Call::Length(LengthLine::L2(tail)),
-        answer: Answer::Open,
-    }
+    to(q, LengthLine::L2(tail))
 }
 
 fn l2(q: Queue, tail: Index) -> Made
     ensures { result ≡ (spec.l2 q tail).made }
 {
     let head = q.head;
-    Made {
-        queue: q,
-        call: Call::Length(LengthLine::L3(tail, head)),
-        answer: Answer::Open,
-    }
+    to(q, LengthLine::L3(tail, head))
 }
 
 #[tactic(auto, unfolding(machine::specs::Count::l3))]
@@ -36,26 +28,18 @@ fn l3(q: Queue, tail: Index, head: Index) -> Made
     ensures { result ≡ (spec.l3 q tail head).made }
 {
     let seen = q.tail;
-    if seen.raw == tail.raw {
+    if seen == tail {
         let length = span::length(tail, head);
         return ends(q, Answer::Len(length));
     }
-    Made {
-        queue: q,
-        call: Call::Length(LengthLine::L1),
-        answer: Answer::Open,
-    }
+    to(q, LengthLine::L1)
 }
 
 fn e1(q: Queue) -> Made
     ensures { result ≡ (spec.e1 q).made }
 {
     let head = q.head;
-    Made {
-        queue: q,
-        call: Call::Empty(EmptyLine::E2(head)),
-        answer: Answer::Open,
-    }
+    to(q, EmptyLine::E2(head))
 }
 
 #[tactic(auto, unfolding(machine::specs::Count::e2))]
@@ -73,9 +57,9 @@ pub fn length(q: Queue, line: LengthLine) -> Made
     ensures { result ≡ (spec.length q line).made }
 {
     match line {
-        LengthLine::L1 => return l1(q),
-        LengthLine::L2(tail) => return l2(q, tail),
-        LengthLine::L3(tail, head) => return l3(q, tail, head),
+        LengthLine::L1 => l1(q),
+        LengthLine::L2(tail) => l2(q, tail),
+        LengthLine::L3(tail, head) => l3(q, tail, head),
     }
 }
 
@@ -83,7 +67,7 @@ pub fn empty(q: Queue, line: EmptyLine) -> Made
     ensures { result ≡ (spec.empty q line).made }
 {
     match line {
-        EmptyLine::E1 => return e1(q),
-        EmptyLine::E2(head) => return e2(q, head),
+        EmptyLine::E1 => e1(q),
+        EmptyLine::E2(head) => e2(q, head),
     }
 }

@@ -12,8 +12,10 @@ use state::{Made, PushLine, Queue};
 pub fn p5(q: Queue, token: u64, t: Index, b: u64, next: u64) -> Made
     ensures { result ≡ (spec.p5 q token t b next).made }
 {
-    let mut stored = q;
-    stored.tail_block = next;
+    let stored = Queue {
+        tail_block: next,
+        ..q
+    };
     to(stored, PushLine::P6(token, t, b, next))
 }
 
@@ -25,8 +27,10 @@ pub fn p6(q: Queue, token: u64, t: Index, b: u64, next: u64) -> Made
     ensures { result ≡ (spec.p6 q token t b next).made }
 {
     let next_index = t.advance(2);
-    let mut stored = q;
-    stored.tail = next_index;
+    let stored = Queue {
+        tail: next_index,
+        ..q
+    };
     to(stored, PushLine::P7(token, t, b, next))
 }
 

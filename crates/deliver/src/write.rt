@@ -4,8 +4,7 @@ ghost use Rattle.memory.specs.Touch.{after};
 ghost use Rattle.machine.specs.Push as spec;
 
 use index::Index;
-use machine::ends;
-use machine::to;
+use machine::{ends, to};
 use memory::Mark;
 use state::{Answer, Made, PushLine, Queue, Refusal};
 
@@ -24,8 +23,8 @@ pub fn p9(q: Queue, pool: &mut [u64], token: u64, t: Index, b: u64, held: Option
 {
     marks::fetch_or(pool, b, t.offset(), Mark::Write);
     match held {
-        None => return ends(q, Answer::Pushed),
-        Some(x) => return to(q, PushLine::P10(x, false)),
+        None => ends(q, Answer::Pushed),
+        Some(x) => to(q, PushLine::P10(x, false)),
     }
 }
 

@@ -6,20 +6,10 @@ ghost use Rattle.memory.specs.Touch.{after};
 ghost use Rattle.state.specs.List.{claim_good, in_claim};
 ghost use Rattle.machine.specs.Steal as spec;
 
-use machine::ends;
 use machine::steals::{first, past, walk_below};
-use machine::to;
+use machine::{ends, to};
 use memory::Mark;
 use state::{Answer, Claim, Made, Queue, StealLine, Won};
-
-fn answer_of(won: Won) -> Answer
-    ensures { result ≡ spec.answer_of won }
-{
-    match won {
-        Won::Task(task) => Answer::Task(task),
-        Won::Moved => Answer::Moved,
-    }
-}
 
 // The slot is one of the claim, and the claim in its block: tested on the list, so that no sum wraps.
 #[tactic(auto, unfolding(machine::specs::Steal::s11))]
@@ -35,7 +25,7 @@ pub fn s11(q: Queue, pool: &mut [u64], won: Won, claim: Claim, slot: u64) -> Mad
         return to(q, walk_below(won, claim.block, lowest));
     }
     if slot + 1 == past(claim) {
-        return ends(q, answer_of(won));
+        return ends(q, Answer::from(won));
     }
     to(q, StealLine::S11(won, claim, slot + 1))
 }
@@ -60,7 +50,7 @@ pub fn s13(q: Queue, pool: &mut [u64], won: Won, block: u64, slot: u64) -> Made
     if marks::has(before, Mark::Read) {
         return to(q, walk_below(won, block, slot));
     }
-    ends(q, answer_of(won))
+    ends(q, Answer::from(won))
 }
 
 pub fn s14(q: Queue, pool: &mut [u64], won: Won, block: u64) -> Made
@@ -68,5 +58,5 @@ pub fn s14(q: Queue, pool: &mut [u64], won: Won, block: u64) -> Made
     ensures pool_after { pool.new ≡ after pool.old (spec.s14 q won block).touch }
 {
     memory::give_back(pool, block);
-    ends(q, answer_of(won))
+    ends(q, Answer::from(won))
 }

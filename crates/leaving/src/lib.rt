@@ -16,8 +16,8 @@ pub fn s5(q: Queue, pool: &[u64], kind: Kind, claim: Claim) -> Made
 {
     let next = memory::next(pool, claim.block);
     match next {
-        None => return to(q, StealLine::S5(kind, claim)),
-        Some(block) => return to(q, StealLine::S6(kind, claim, block)),
+        None => to(q, StealLine::S5(kind, claim)),
+        Some(block) => to(q, StealLine::S6(kind, claim, block)),
     }
 }
 
@@ -25,17 +25,16 @@ pub fn s6(q: Queue, pool: &[u64], kind: Kind, claim: Claim, next: u64) -> Made
     ensures { result ≡ (spec.s6 q pool.now kind claim next).made }
 {
     let beyond = memory::next(pool, next);
-    match beyond {
-        None => return to(q, StealLine::S7(kind, claim, next, false)),
-        Some(_) => return to(q, StealLine::S7(kind, claim, next, true)),
-    }
+    to(q, StealLine::S7(kind, claim, next, beyond.is_some()))
 }
 
 pub fn s7(q: Queue, kind: Kind, claim: Claim, next: u64, more: bool) -> Made
     ensures { result ≡ (spec.s7 q kind claim next more).made }
 {
-    let mut moved = q;
-    moved.head_block = next;
+    let moved = Queue {
+        head_block: next,
+        ..q
+    };
     to(moved, StealLine::S8(kind, claim, more))
 }
 
@@ -48,8 +47,10 @@ pub fn s8(q: Queue, kind: Kind, claim: Claim, more: bool) -> Made
 {
     let head = claim.head;
     let next_index = head.advance(claim.advance).leave_lap(more);
-    let mut moved = q;
-    moved.head = next_index;
+    let moved = Queue {
+        head: next_index,
+        ..q
+    };
     let slot = first(claim);
     to(moved, StealLine::S9(kind, claim, slot))
 }

@@ -5,8 +5,7 @@ ghost use Rattle.std.specs.Prelude.{◌≡◌};
 ghost use Rattle.machine.specs.Push as spec;
 
 use index::{BLOCK_CAP, Index};
-use machine::ends;
-use machine::to;
+use machine::{ends, to};
 use state::{Answer, Made, PushLine, Queue, Refusal};
 
 pub fn p1(q: Queue, token: u64, held: Option<u64>) -> Made
@@ -26,16 +25,16 @@ pub fn p2(q: Queue, token: u64, t: Index, held: Option<u64>) -> Made
         return to(q, PushLine::P1(token, held));
     }
     if q.ceiling <= t.lap() {
-        match held {
-            None => return ends(q, Answer::Refused(Refusal::Spent)),
-            Some(x) => return to(q, PushLine::P10(x, true)),
-        }
+        return match held {
+            None => ends(q, Answer::Refused(Refusal::Spent)),
+            Some(x) => to(q, PushLine::P10(x, true)),
+        };
     }
     if offset == BLOCK_CAP - 1 {
-        match held {
-            None => return to(q, PushLine::P3(token, t, b)),
-            Some(_) => return to(q, PushLine::P4(token, t, b, held)),
-        }
+        return match held {
+            None => to(q, PushLine::P3(token, t, b)),
+            Some(_) => to(q, PushLine::P4(token, t, b, held)),
+        };
     }
     to(q, PushLine::P4(token, t, b, held))
 }

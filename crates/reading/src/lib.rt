@@ -28,9 +28,8 @@ fn won_of(kind: Kind, taken: [u64; 63]) -> Won
 {
     let task = taken[0];
     match kind {
-        Kind::Steal => Won::Task(task),
+        Kind::Steal | Kind::Take(_) => Won::Task(task),
         Kind::Batch(_) => Won::Moved,
-        Kind::Take(_) => Won::Task(task),
     }
 }
 
@@ -39,9 +38,8 @@ fn enters_from(kind: Kind) -> u64
     ensures { result ≡ spec.enters_from kind }
 {
     match kind {
-        Kind::Steal => 1,
+        Kind::Steal | Kind::Take(_) => 1,
         Kind::Batch(_) => 0,
-        Kind::Take(_) => 1,
     }
 }
 

@@ -7,8 +7,7 @@ ghost use Rattle.memory.specs.Touch.{after};
 ghost use Rattle.machine.specs.Push as spec;
 
 use index::{BLOCK_CAP, Index};
-use machine::ends;
-use machine::to;
+use machine::{ends, to};
 use state::{Answer, Made, PushLine, Queue, Refusal};
 
 #[tactic(auto, unfolding(machine::specs::Push::p3))]
@@ -18,8 +17,8 @@ pub fn p3(q: Queue, pool: &mut [u64], token: u64, t: Index, b: u64) -> Made
 {
     let took = supply::take(pool, q.blocks);
     match took {
-        None => return ends(q, Answer::Refused(Refusal::NoBlock)),
-        Some(_) => return to(q, PushLine::P4(token, t, b, took)),
+        None => ends(q, Answer::Refused(Refusal::NoBlock)),
+        Some(_) => to(q, PushLine::P4(token, t, b, took)),
     }
 }
 
@@ -31,16 +30,17 @@ pub fn p4(q: Queue, token: u64, t: Index, b: u64, held: Option<u64>) -> Made
     ensures { result ≡ (spec.p4 q token t b held).made }
 {
     let seen = q.tail;
-    if seen.raw != t.raw {
+    if seen != t {
         return to(q, PushLine::P2(token, seen, held));
     }
-    let mut won = q;
     let new_tail = t.advance(1);
-    won.tail = new_tail;
+    let won = Queue {
+        tail: new_tail,
+        ..q
+    };
     if t.offset() == BLOCK_CAP - 1 {
-        match held {
-            None => return to(won, PushLine::P8(token, t, b, held)),
-            Some(x) => return to(won, PushLine::P5(token, t, b, x)),
+        if let Some(x) = held {
+            return to(won, PushLine::P5(token, t, b, x));
         }
     }
     to(won, PushLine::P8(token, t, b, held))
