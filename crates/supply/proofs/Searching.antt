@@ -1,20 +1,30 @@
--- What one turn of the search shows of the blocks that are left, and what one more free mark makes of the pool.
-use Rattle.std.specs.Prelude.{ℕ, zero, suc, ◌+◌, ◌-◌, ◌<◌, ◌≤◌, ◌≡◌, true, false, List, set, None, Some}
-use Rattle.std.proofs.Common.{arith, add-one}
+-- The lowest free block, said of the blocks' numbers, and what one more free mark makes of the pool.
+use Rattle.std.specs.Prelude.{ℕ, zero, suc, ◌+◌, ◌-◌, ◌<◌, ◌≤◌, ◌≡◌, true, false, List, set, Option, None, Some, MatchOption}
+use Rattle.std.proofs.Common.{refl, sym, arith, ⊎_elim, eq-or-lt_of_le}
 use Rattle.memory.specs.Layout.{is_free, free_at}
-use Rattle.memory.specs.Pool.{free_from, freed}
+use Rattle.memory.specs.Pool.{free_from, pick, freed}
 
-pub found : (m : List ℕ) (b n : ℕ) → b < n → is_free m b ≡ true → free_from m b (n - b) ≡ Some b
+none_from : (m : List ℕ) (b n : ℕ) → ((k : ℕ) → b ≤ k → k < b + n → is_free m k ≡ false) → free_from m b n ≡ None
 unfolding free_from
-found m b n h e = let k : n - b ≡ suc (n - (b + 1)) = omega arith in rw (k, e)
+none_from m b zero h = refl
+none_from m b (suc n) h = rw (h b (omega arith) (omega arith)) (none_from m (suc b) n (λ k p q. h k (omega arith) (omega arith)))
 
-pub passed : (m : List ℕ) (b n : ℕ) → b < n → is_free m b ≡ false → free_from m b (n - b) ≡ free_from m (b + 1) (n - (b + 1))
+first_from : (m : List ℕ) (b n i : ℕ) → b ≤ i → i < b + n → is_free m i ≡ true → ((k : ℕ) → b ≤ k → k < i → is_free m k ≡ false) → free_from m b n ≡ Some i
 unfolding free_from
-passed m b n h e = let k : n - b ≡ suc (n - (b + 1)) = omega arith in rw (k, e, add-one)
+first_from m b zero i p q e h = absurd (omega arith)
+first_from m b (suc n) i p q e h =
+    ⊎_elim
+    (λ (k : b ≡ i). rw (rw (← k) at e, k))
+    (λ (k : b < i). rw (h b (omega arith) k) (first_from m (suc b) n i k (omega arith) e (λ j a c. h j (omega arith) c)))
+    (eq-or-lt_of_le p)
 
-pub ended : (m : List ℕ) (b n : ℕ) → n ≤ b → free_from m b (n - b) ≡ None
-unfolding free_from
-ended m b n h = let k : n - b ≡ 0 = omega arith in rw k
+pub lowest : (m : List ℕ) (n : ℕ) (r : Option ℕ)
+    → MatchOption r ((k : ℕ) → 0 ≤ k → k < n → is_free m k ≡ false)
+    (λ i. (0 ≤ i) × (i < n) × (is_free m i ≡ true) × ((k : ℕ) → 0 ≤ k → k < i → is_free m k ≡ false))
+    → r ≡ pick m n
+unfolding pick
+lowest m n None h = sym (none_from m 0 n (λ k p q. h k p (omega arith)))
+lowest m n (Some i) h = sym (first_from m 0 n i h.0 (omega arith) h.2 h.3)
 
 -- the marks of the blocks below b, and that of b
 pub freed_more : (m : List ℕ) (b : ℕ) → 1 ≤ b → set (freed m (b - 1)) (free_at b) 1 ≡ freed m (b + 1 - 1)

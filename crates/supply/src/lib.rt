@@ -7,27 +7,20 @@ ghost use Rattle.memory.specs.Pool.{pick, taking, fresh};
 
 use memory::{BLOCK_WORDS, give_back, is_free, store};
 
+#[tactic(auto, using(memory::specs::Lists::sets_more), unfolding(memory::specs::Touch::cleared))]
 fn clear(pool: &mut [u64], block: u64)
     ensures { pool.new ≡ after pool.old (clears block) }
 {
-    let mut place: u64 = 0;
-    while place < BLOCK_WORDS {
+    // no `fill`: both ends of the part would have to be cut to the pool's, where a store past the end changes nothing
+    for place in 0..BLOCK_WORDS {
         store(pool, block, place, 0);
-        place += 1;
     }
 }
 
 fn find_free(pool: &[u64], blocks: u64) -> Option<u64>
     ensures { result ≡ pick pool.now blocks }
 {
-    let mut block: u64 = 0;
-    while block < blocks {
-        if is_free(pool, block) {
-            return Some(block);
-        }
-        block += 1;
-    }
-    None
+    (0..blocks).find(|&block| is_free(pool, block))
 }
 
 // The lowest-numbered free block of `blocks`, cleared to zeros and no next, and so not free any more.
@@ -43,17 +36,12 @@ pub fn take(pool: &mut [u64], blocks: u64) -> Option<u64>
 }
 
 // The words of a pool with block 0 in use and all others free.
+#[tactic(auto, using(crate::proofs::Searching::freed_more), unfolding(memory::specs::Pool::freed))]
 pub fn reset(pool: &mut [u64], blocks: u64)
     ensures { pool.new ≡ fresh (length pool.old) blocks }
 {
-    let mut at: usize = 0;
-    while at < pool.len() {
-        pool[at] = 0;
-        at += 1;
-    }
-    let mut block: u64 = 1;
-    while block < blocks {
+    pool.fill(0);
+    for block in 1..blocks {
         give_back(pool, block);
-        block += 1;
     }
 }

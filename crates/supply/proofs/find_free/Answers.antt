@@ -1,15 +1,11 @@
-use Rattle.std.proofs.Common.{sym, ◌∙◌, arith}
-use Rattle.memory.specs.Pool.{pick}
-use Rattle.supply.proofs.Searching.{found, passed, ended}
+use Rattle.std.proofs.Common.{rules, ℕ, ◌≡◌, true, false}
+use Rattle.std.proofs.lemmas.Iterator.{first_from_Range}
+use Rattle.memory.specs.Layout.{is_free}
+use Rattle.supply.proofs.Searching.{lowest}
 use Rattle.supply.proofs.find_free.Goals as goal
 
-pub returns-then-is_free : goal.returns-then-is_free
-unfolding pick
-returns-then-is_free c = sym (c.loop-block.invariant.1 ∙ found _ _ _ c.loop-block-test.true (cc))
-
-pub loop-block-preserved : goal.loop-block-preserved
-loop-block-preserved c = (omega arith, c.loop-block.invariant.1 ∙ passed _ _ _ c.loop-block-test.true (cc))
-
 pub returns : goal.returns
-unfolding pick
-returns c = sym (c.loop-block.invariant.1 ∙ ended _ _ _ c.loop-block-test.false)
+returns c =
+    let m = c.args.pool.now in
+    lowest m c.args.blocks c.find.result
+    (first_from_Range _ _ _ c.find.result (λ (k : ℕ). is_free m k ≡ true) (λ (k : ℕ). is_free m k ≡ false) c.find.ensures.ran (λ x q k. search rules) (λ x q k. search rules))
