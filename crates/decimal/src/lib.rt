@@ -1,57 +1,49 @@
 // Numbers of the text: decimals without needless zeros, at most the largest u64.
 #![tactic(auto)]
 
-ghost use Rattle.std.specs.Prelude.{◌≡◌};
-ghost use Rattle.text.specs.Line.{number_at, row_at};
+ghost use Rattle.std.specs.Prelude.{◌≡◌, ◌==◌, not, length, take_while};
+ghost use Rattle.text.specs.Line.{number_at};
+ghost use Rattle.text.specs.Number.{number, worth, bounded};
 
-// The number in the field that starts at `at`.
+// The number in the field that starts at `at`, and the place right behind the field.
 #[tactic(auto, using(crate::proofs::Ends::field_ends))]
 pub fn read_number(line: &[u8], at: usize) -> Option<(u64, usize)>
     ensures { result ≡ number_at line.now at }
 {
-    if line.len() <= at {
-        return None;
-    }
-    let first = line[at];
-    if first == 9 {
-        return None;
-    }
-    if first == 48 {
-        let next = at + 1;
-        if next < line.len() {
-            if line[next] != 9 {
-                return None;
-            }
-        }
-        return Some((0, next));
-    }
-    read_row(line, at)
+    let rest = line.get(at..)?;
+    let n = field_len(rest);
+    Some((number(&rest[..n])?, at + n))
 }
 
-// The row of digits from `at` up to the next tab or the end. A value past the largest is found before it would wrap.
+fn field_len(rest: &[u8]) -> usize
+    ensures { result ≡ length (take_while (λ b. not (b == 9)) rest.now) }
+{
+    rest.iter().take_while(|b| **b != b'\t').count()
+}
+
+#[tactic(auto, unfolding(text::specs::Number::number))]
+fn number(field: &[u8]) -> Option<u64>
+    ensures { result ≡ number field.now }
+{
+    match field {
+        [] => None,
+        [b'0'] => Some(0),
+        [b'0', ..] => None,
+        _ => row(field),
+    }
+}
+
+// A row of digits. A value past the largest is found before it would wrap.
 #[tactic(auto, using(crate::proofs::Ends::row_ends))]
-fn read_row(line: &[u8], at: usize) -> Option<(u64, usize)>
-    ensures { result ≡ row_at line.now at }
+fn row(field: &[u8]) -> Option<u64>
+    ensures { result ≡ bounded (worth 0 field.now) }
 {
     let mut v: u64 = 0;
-    let mut i = at;
-    while i < line.len() {
-        let c = line[i];
-        if c == 9 {
-            return Some((v, i));
-        }
-        if c < 48 {
+    for c in field {
+        if !c.is_ascii_digit() {
             return None;
         }
-        if 57 < c {
-            return None;
-        }
-        let d = (c - 48) as u64;
-        if (18446744073709551615 - d) / 10 < v {
-            return None;
-        }
-        v = v * 10 + d;
-        i += 1;
+        v = v.checked_mul(10)?.checked_add(u64::from(*c - b'0'))?;
     }
-    Some((v, i))
+    Some(v)
 }

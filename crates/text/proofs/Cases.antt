@@ -10,36 +10,36 @@ use lib.Dec.{eqb}
 use borrow.Author.Tests.{le-leb, lt-leb, eqb-true, eqb-false}
 use Rattle.std.specs.Prelude.{Option, Some, None}
 use Rattle.std.proofs.lemmas.Option.{some_pair_parts}
-use Rattle.text.specs.Number.{Num, value, none, number}
+use Rattle.text.specs.Number.{number}
 use Rattle.text.specs.Line.{fields, first, behind, placed, number_at, command, parsed, with_one, with_two, with_three}
 use Rattle.text.specs.declared.Command.{Command}
 use Rattle.text.proofs.Parting.{first_le, first-take, fields-last, fields-next, behind_le, fields-last-at, fields-next-at}
 
 -- ---- a number, and its place
 
-placed-value : (m : Num) (p v x : ℕ) → placed p m ≡ Some (v, x) → (m ≡ value v) × (p ≡ x)
-placed-value (value u) p v x e = let q = some_pair_parts u v p x e in (ap value q.0, q.1)
-placed-value none p v x e = (cc, cc)
+placed-value : (m : Option ℕ) (p v x : ℕ) → placed p m ≡ Some (v, x) → (m ≡ Some v) × (p ≡ x)
+placed-value (Some u) p v x e = let q = some_pair_parts u v p x e in (ap Some q.0, q.1)
+placed-value None p v x e = (cc, cc)
 
-placed-bad : (m : Num) (p : ℕ) → placed p m ≡ None → m ≡ none
-placed-bad (value u) p e = cc
-placed-bad none p e = refl
+placed-bad : (m : Option ℕ) (p : ℕ) → placed p m ≡ None → m ≡ None
+placed-bad (Some u) p e = cc
+placed-bad None p e = refl
 
 -- ---- a field that is no number, whatever follows it
 
-bad-first : (w a : List ℕ) (more : List (List ℕ)) → number a ≡ none → command (w ∷ a ∷ more) ≡ None
+bad-first : (w a : List ℕ) (more : List (List ℕ)) → number a ≡ None → command (w ∷ a ∷ more) ≡ None
 bad-first w a [] e = rw e
 bad-first w a (b ∷ []) e = rw e
 bad-first w a (b ∷ c ∷ []) e = rw e
 bad-first w a (b ∷ c ∷ d ∷ more) e = refl
 
-bad_second : (w a b : List ℕ) (u : ℕ) → number a ≡ value u → (more : List (List ℕ)) → number b ≡ none
+bad_second : (w a b : List ℕ) (u : ℕ) → number a ≡ Some u → (more : List (List ℕ)) → number b ≡ None
     → command (w ∷ a ∷ b ∷ more) ≡ None
 bad_second w a b u p [] e = rw (p, e)
 bad_second w a b u p (c ∷ []) e = rw (p, e)
 bad_second w a b u p (c ∷ d ∷ more) e = refl
 
-bad_third : (w a b c : List ℕ) (u v : ℕ) → number a ≡ value u → number b ≡ value v → (more : List (List ℕ)) → number c ≡ none
+bad_third : (w a b c : List ℕ) (u v : ℕ) → number a ≡ Some u → number b ≡ Some v → (more : List (List ℕ)) → number c ≡ None
     → command (w ∷ a ∷ b ∷ c ∷ more) ≡ None
 bad_third w a b c u v p q [] e = rw (p, q, e)
 bad_third w a b c u v p q (d ∷ more) e = refl
@@ -60,14 +60,14 @@ record At (l : List ℕ) (p : ℕ) (K : List (List ℕ) → Option Command) : Ty
 
 module _ {l : List ℕ} {p : ℕ} {K : List (List ℕ) → Option Command} (at : At l p K) where
   no_number : number_at l p ≡ None
-      → ((more : List (List ℕ)) → number (first (drop p l)) ≡ none → K (first (drop p l) ∷ more) ≡ None)
+      → ((more : List (List ℕ)) → number (first (drop p l)) ≡ None → K (first (drop p l) ∷ more) ≡ None)
       → None ≡ parsed l
   no_number e bad =
       let f = later (drop p l) in
       sym (at.rest ∙ ap K f.1 ∙ bad f.0 (placed-bad (number (first (drop p l))) (behind l p) e))
 
   module _ {v x : ℕ} (found : number_at l p ≡ Some (v, x)) where
-    num : number (first (drop p l)) ≡ value v
+    num : number (first (drop p l)) ≡ Some v
     num = (placed-value (number (first (drop p l))) (behind l p) v x found).0
 
     end : behind l p ≡ x
@@ -140,7 +140,7 @@ module _ {l : List ℕ} {w : ℕ} (k : Word l w) where
   no-first e = no_number at_one e (bad-first (first l) (first (drop (w + 1) l)))
 
 module _ {l : List ℕ} {w a x : ℕ} (k : One l w a x) where
-  num_one : number (first (drop (w + 1) l)) ≡ value a
+  num_one : number (first (drop (w + 1) l)) ≡ Some a
   num_one = num (at_one k.word) k.found
 
   pub one_le : x ≤ length l
@@ -161,7 +161,7 @@ module _ {l : List ℕ} {w a x b y : ℕ} (k : Two l w a x b y) where
   at_second : At l (x + 1) (λ fs. command (first l ∷ first (drop (w + 1) l) ∷ fs))
   at_second = at-two k.one k.more
 
-  num_two : number (first (drop (x + 1) l)) ≡ value b
+  num_two : number (first (drop (x + 1) l)) ≡ Some b
   num_two = num at_second k.found
 
   pub two_le : y ≤ length l

@@ -9,7 +9,8 @@ use native.Mathlib.Omega.{arith}
 use lib.ListN.{length, length-append}
 use lib.Dec.{ltb, leb, eqb}
 use borrow.Author.Tests.{lt-ltb, le-ltb, le-leb, ne_eqb, ltb-true, ltb-false, leb-true, leb-false, eqb-true, eqb-false}
-use Rattle.text.specs.Number.{Num, value, none, is_digit, worth, bounded, alone, number, digits_in, digits}
+use Rattle.std.specs.Prelude.{Option, Some, None}
+use Rattle.text.specs.Number.{is_digit, worth, bounded, alone, number, digits_in, digits}
 use Rattle.text.proofs.Rows.{worth_digit, worth-low, worth-high}
 
 -- a number has one digit or more
@@ -72,9 +73,9 @@ digits-length n h = at_most 19 n (omega arith)
 
 -- ---- reading the digits gives the number back
 
-then : Num → List ℕ → Num
-then (value v) ys = worth v ys
-then none ys = none
+then : Option ℕ → List ℕ → Option ℕ
+then (Some v) ys = worth v ys
+then None ys = None
 
 worth_append : (v : ℕ) (xs ys : List ℕ) → worth v (xs ++ ys) ≡ then (worth v xs) ys
 unfolding worth then
@@ -82,17 +83,17 @@ worth_append v [] ys = refl
 worth_append v (c ∷ cs) ys = go (is_digit c) (worth_append (v * 10 + (c - 48)) cs ys)
   where
     go : (b : Bool) → worth (v * 10 + (c - 48)) (cs ++ ys) ≡ then (worth (v * 10 + (c - 48)) cs) ys
-        → cond b (worth (v * 10 + (c - 48)) (cs ++ ys)) none ≡ then (cond b (worth (v * 10 + (c - 48)) cs) none) ys
+        → cond b (worth (v * 10 + (c - 48)) (cs ++ ys)) None ≡ then (cond b (worth (v * 10 + (c - 48)) cs) None) ys
     go true e = e
     go false e = refl
 
-worth-one : (v d : ℕ) → d < 10 → worth v ((48 + d) ∷ []) ≡ value (v * 10 + d)
+worth-one : (v d : ℕ) → d < 10 → worth v ((48 + d) ∷ []) ≡ Some (v * 10 + d)
 unfolding worth
 worth-one v d h =
     let s : 48 + d - 48 ≡ d = omega arith in
     worth_digit v (48 + d) [] (omega arith) (omega arith) ∙ rw s
 
-worth_in : (k n : ℕ) → n < k → worth 0 (digits_in k n) ≡ value n
+worth_in : (k n : ℕ) → n < k → worth 0 (digits_in k n) ≡ Some n
 unfolding then
 worth_in zero n h = absurd (omega arith)
 worth_in (suc k) n h =
@@ -101,13 +102,13 @@ worth_in (suc k) n h =
     let e : 0 * 10 + n ≡ n = omega arith in
     rw (in_short k n s, worth-one 0 n s, e))
     (λ l.
-    let front : worth 0 (digits_in k (n / 10)) ≡ value (n / 10) = worth_in k (n / 10) (omega arith) in
-    let last : worth (n / 10) ((48 + n % 10) ∷ []) ≡ value (n / 10 * 10 + n % 10) = worth-one (n / 10) (n % 10) (omega arith) in
+    let front : worth 0 (digits_in k (n / 10)) ≡ Some (n / 10) = worth_in k (n / 10) (omega arith) in
+    let last : worth (n / 10) ((48 + n % 10) ∷ []) ≡ Some (n / 10 * 10 + n % 10) = worth-one (n / 10) (n % 10) (omega arith) in
     let e : n / 10 * 10 + n % 10 ≡ n = omega arith in
     rw (in_long k n l, worth_append 0 (digits_in k (n / 10)) ((48 + n % 10) ∷ []), front, last, e))
     (short-or_long n)
 
-pub worth-digits : (n : ℕ) → worth 0 (digits n) ≡ value n
+pub worth-digits : (n : ℕ) → worth 0 (digits n) ≡ Some n
 unfolding digits
 worth-digits n = worth_in (suc n) n (omega arith)
 
@@ -133,13 +134,13 @@ front_in (suc k) n h p =
     })
     (short-or_long n)
 
-number-front : (n : ℕ) → n < 2 ^ 64 → Front (digits n) → number (digits n) ≡ value n
+number-front : (n : ℕ) → n < 2 ^ 64 → Front (digits n) → number (digits n) ≡ Some n
 unfolding number
 number-front n h f =
-    let w : worth 0 (f.front ∷ f.more) ≡ value n = ap (worth 0) (sym f.spelt) ∙ worth-digits n in
+    let w : worth 0 (f.front ∷ f.more) ≡ Some n = ap (worth 0) (sym f.spelt) ∙ worth-digits n in
     rw (f.spelt, ne_eqb f.front 48 f.some, w, le-leb n 18_446_744_073_709_551_615 (omega arith))
 
-pub number_digits : (n : ℕ) → n < 2 ^ 64 → number (digits n) ≡ value n
+pub number_digits : (n : ℕ) → n < 2 ^ 64 → number (digits n) ≡ Some n
 unfolding number digits digits_in
 number_digits zero h = refl
 number_digits (suc n) h = number-front (suc n) h (front_in (suc (suc n)) (suc n) (omega arith) (omega arith))
@@ -152,16 +153,16 @@ digits_more v c p h k =
     let r : 48 + (v * 10 + (c - 48)) % 10 ≡ c = omega arith in
     digits_long (v * 10 + (c - 48)) (omega arith) ∙ rw (q, r)
 
-digit_or-not : (c : ℕ) → ((48 ≤ c) × (c ≤ 57)) ⊎ ((v : ℕ) (cs : List ℕ) → worth v (c ∷ cs) ≡ none)
+digit_or-not : (c : ℕ) → ((48 ≤ c) × (c ≤ 57)) ⊎ ((v : ℕ) (cs : List ℕ) → worth v (c ∷ cs) ≡ None)
 digit_or-not c = go (leb 48 c) (leb c 57) refl refl
   where
-    go : (a b : Bool) → leb 48 c ≡ a → leb c 57 ≡ b → ((48 ≤ c) × (c ≤ 57)) ⊎ ((v : ℕ) (cs : List ℕ) → worth v (c ∷ cs) ≡ none)
+    go : (a b : Bool) → leb 48 c ≡ a → leb c 57 ≡ b → ((48 ≤ c) × (c ≤ 57)) ⊎ ((v : ℕ) (cs : List ℕ) → worth v (c ∷ cs) ≡ None)
     go true true p q = inl (leb-true 48 c p, leb-true c 57 q)
     go true false p q = inr (λ v cs. worth-high v c cs (leb-false c 57 q))
     go false true p q = inr (λ v cs. worth-low v c cs (leb-false 48 c p))
     go false false p q = inr (λ v cs. worth-low v c cs (leb-false 48 c p))
 
-spelt-row : (v : ℕ) (cs : List ℕ) (n : ℕ) → 0 < v → worth v cs ≡ value n → digits v ++ cs ≡ digits n
+spelt-row : (v : ℕ) (cs : List ℕ) (n : ℕ) → 0 < v → worth v cs ≡ Some n → digits v ++ cs ≡ digits n
 unfolding worth
 spelt-row v [] n p e = let q : v ≡ n = cc in append-nil (digits v) ∙ ap digits q
 spelt-row v (c ∷ cs) n p e =
@@ -170,18 +171,18 @@ spelt-row v (c ∷ cs) n p e =
     sym (append_assoc (digits v) (c ∷ []) cs)
     ∙ ap (λ (r : List ℕ). r ++ cs) (sym (digits_more v c p d.0 d.1))
     ∙ spelt-row (v * 10 + (c - 48)) cs n (omega arith) (sym (worth_digit v c cs d.0 d.1) ∙ e))
-    (λ no. let z : none ≡ value n = sym (no v cs) ∙ e in cc)
+    (λ no. let z : None ≡ Some n = sym (no v cs) ∙ e in cc)
     (digit_or-not c)
 
-unbounded : (m : Num) (n : ℕ) → bounded m ≡ value n → m ≡ value n
-unbounded none n e = e
-unbounded (value v) n e = go (leb v 18_446_744_073_709_551_615) e
+unbounded : (m : Option ℕ) (n : ℕ) → bounded m ≡ Some n → m ≡ Some n
+unbounded None n e = e
+unbounded (Some v) n e = go (leb v 18_446_744_073_709_551_615) e
   where
-    go : (b : Bool) → cond b (value v) none ≡ value n → value v ≡ value n
+    go : (b : Bool) → cond b (Some v) None ≡ Some n → Some v ≡ Some n
     go true q = q
     go false q = cc
 
-spelt-front : (c : ℕ) (cs : List ℕ) (n : ℕ) → (c ≡ 48 → ⊥) → worth 0 (c ∷ cs) ≡ value n → c ∷ cs ≡ digits n
+spelt-front : (c : ℕ) (cs : List ℕ) (n : ℕ) → (c ≡ 48 → ⊥) → worth 0 (c ∷ cs) ≡ Some n → c ∷ cs ≡ digits n
 spelt-front c cs n h e =
     ⊎_elim
     (λ d.
@@ -191,19 +192,19 @@ spelt-front c cs n h e =
     let short : digits (0 * 10 + (c - 48)) ≡ c ∷ [] = digits-short (0 * 10 + (c - 48)) (omega arith) ∙ rw one in
     ap (λ (r : List ℕ). r ++ cs) (sym short)
     ∙ spelt-row (0 * 10 + (c - 48)) cs n (omega arith) (sym (worth_digit 0 c cs low high) ∙ e))
-    (λ no. let z : none ≡ value n = sym (no 0 cs) ∙ e in cc)
+    (λ no. let z : None ≡ Some n = sym (no 0 cs) ∙ e in cc)
     (digit_or-not c)
 
-spelt-alone : (c : ℕ) (cs : List ℕ) (n : ℕ) → c ≡ 48 → alone cs ≡ value n → c ∷ cs ≡ digits n
+spelt-alone : (c : ℕ) (cs : List ℕ) (n : ℕ) → c ≡ 48 → alone cs ≡ Some n → c ∷ cs ≡ digits n
 unfolding digits digits_in
 spelt-alone c [] n e q = let z : n ≡ 0 = cc in rw (z, e)
 spelt-alone c (d ∷ ds) n e q = cc
 
-pub spelt-once : (l : List ℕ) (n : ℕ) → number l ≡ value n → l ≡ digits n
+pub spelt-once : (l : List ℕ) (n : ℕ) → number l ≡ Some n → l ≡ digits n
 unfolding number
 spelt-once [] n e = cc
 spelt-once (c ∷ cs) n e = go (eqb c 48) refl e
   where
-    go : (b : Bool) → eqb c 48 ≡ b → cond b (alone cs) (bounded (worth 0 (c ∷ cs))) ≡ value n → c ∷ cs ≡ digits n
+    go : (b : Bool) → eqb c 48 ≡ b → cond b (alone cs) (bounded (worth 0 (c ∷ cs))) ≡ Some n → c ∷ cs ≡ digits n
     go true q h = spelt-alone c cs n (eqb-true c 48 q) h
     go false q h = spelt-front c cs n (eqb-false c 48 q) (unbounded (worth 0 (c ∷ cs)) n h)

@@ -8,7 +8,7 @@ use lib.Dec.{leb, eqb}
 use borrow.Author.Tests.{eqb-true}
 use Rattle.std.specs.Prelude.{Option, Some, None}
 use Rattle.text.specs.Ascii.{ascii}
-use Rattle.text.specs.Number.{Num, value, none, number, digits}
+use Rattle.text.specs.Number.{number, digits}
 use Rattle.text.specs.Line.{fields, prepend, same, with_one, with_two, with_three, one, two, three, command, parsed}
 use Rattle.text.specs.Print.{word_bytes, queue_bytes}
 use Rattle.text.specs.declared.Command.{Command}
@@ -63,27 +63,27 @@ spelt-bad : (fs : List (List ℕ)) → Spelt fs None
 unfolding Spelt
 spelt-bad fs a b c e = cc
 
-spelt-one : (fs : List (List ℕ)) (w : List ℕ) (n : Num) → Spelt fs (one w n)
+spelt-one : (fs : List (List ℕ)) (w : List ℕ) (n : Option ℕ) → Spelt fs (one w n)
 unfolding Spelt with_one
-spelt-one fs w none = spelt-bad fs
-spelt-one fs w (value v) =
+spelt-one fs w None = spelt-bad fs
+spelt-one fs w (Some v) =
     by_test fs (same w (ascii "step")) _ _ (λ a b c e. cc)
     (by_test fs (same w (ascii "steal")) _ _ (λ a b c e. cc)
     (by_test fs (same w (ascii "pop")) _ _ (λ a b c e. cc)
     (by_test fs (same w (ascii "len")) _ _ (λ a b c e. cc)
     (by_test fs (same w (ascii "empty")) _ _ (λ a b c e. cc) (spelt-bad fs)))))
 
-spelt-two : (fs : List (List ℕ)) (w : List ℕ) (m n : Num) → Spelt fs (two w m n)
+spelt-two : (fs : List (List ℕ)) (w : List ℕ) (m n : Option ℕ) → Spelt fs (two w m n)
 unfolding Spelt with_two
-spelt-two fs w none n = spelt-bad fs
-spelt-two fs w (value u) none = spelt-bad fs
-spelt-two fs w (value u) (value v) =
+spelt-two fs w None n = spelt-bad fs
+spelt-two fs w (Some u) None = spelt-bad fs
+spelt-two fs w (Some u) (Some v) =
     by_test fs (same w (ascii "push")) _ _ (λ a b c e. cc)
     (by_test fs (same w (ascii "run")) _ _ (λ a b c e. cc)
     (by_test fs (same w (ascii "batch")) _ _ (λ a b c e. cc)
     (by_test fs (same w (ascii "take")) _ _ (λ a b c e. cc) (spelt-bad fs))))
 
-spelt-queue : (w x y z : List ℕ) (u v t : ℕ) → number x ≡ value u → number y ≡ value v → number z ≡ value t
+spelt-queue : (w x y z : List ℕ) (u v t : ℕ) → number x ≡ Some u → number y ≡ Some v → number z ≡ Some t
     → (q : Bool) → same w (ascii "queue") ≡ q
     → Spelt (w ∷ x ∷ y ∷ z ∷ []) (cond q (Some (Command.Queue u v t)) None)
 unfolding Spelt
@@ -95,13 +95,13 @@ spelt-queue w x y z u v t ex ey ez true s a b c e =
     cc
 spelt-queue w x y z u v t ex ey ez false s a b c e = spelt-bad (w ∷ x ∷ y ∷ z ∷ []) a b c e
 
-spelt-three : (w x y z : List ℕ) (m n k : Num) → number x ≡ m → number y ≡ n → number z ≡ k
+spelt-three : (w x y z : List ℕ) (m n k : Option ℕ) → number x ≡ m → number y ≡ n → number z ≡ k
     → Spelt (w ∷ x ∷ y ∷ z ∷ []) (three w m n k)
 unfolding with_three
-spelt-three w x y z none n k ex ey ez = spelt-bad (w ∷ x ∷ y ∷ z ∷ [])
-spelt-three w x y z (value u) none k ex ey ez = spelt-bad (w ∷ x ∷ y ∷ z ∷ [])
-spelt-three w x y z (value u) (value v) none ex ey ez = spelt-bad (w ∷ x ∷ y ∷ z ∷ [])
-spelt-three w x y z (value u) (value v) (value t) ex ey ez = spelt-queue w x y z u v t ex ey ez (same w (ascii "queue")) refl
+spelt-three w x y z None n k ex ey ez = spelt-bad (w ∷ x ∷ y ∷ z ∷ [])
+spelt-three w x y z (Some u) None k ex ey ez = spelt-bad (w ∷ x ∷ y ∷ z ∷ [])
+spelt-three w x y z (Some u) (Some v) None ex ey ez = spelt-bad (w ∷ x ∷ y ∷ z ∷ [])
+spelt-three w x y z (Some u) (Some v) (Some t) ex ey ez = spelt-queue w x y z u v t ex ey ez (same w (ascii "queue")) refl
 
 spelt-command : (fs : List (List ℕ)) → Spelt fs (command fs)
 spelt-command [] = spelt-bad []

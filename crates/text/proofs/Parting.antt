@@ -1,42 +1,15 @@
 -- The fields of a line, as a cursor meets them: what the first field is at a place, and what follows it.
-use Prim.Native.Nat.{ℕ, suc, ◌+◌, ◌≤◌, ◌<◌}
+use Prim.Native.Nat.{ℕ, suc, ◌+◌, ◌≤◌}
 use mathlib.Core.Path.{◌≡◌, refl, ap, ◌∙◌}
 use mathlib.Core.Bool.{Bool, true, false, cond}
 use mathlib.Core.List.{List, [], ◌∷◌}
 use native.Mathlib.Nat.{suc_inj}
-use native.Mathlib.Numerals.{add-one}
 use native.Mathlib.Omega.{arith}
-use lib.ListN.{length, get_or, take, drop, length-drop, drop_of_length-le}
-use lib.Seq.{drop-cons, drop-drop}
+use lib.ListN.{length, take, drop, length-drop}
+use lib.Seq.{drop-drop}
 use lib.Dec.{eqb}
-use borrow.Author.Tests.{eq-eqb, ne_eqb, eqb-true}
+use borrow.Author.Tests.{eqb-true}
 use Rattle.text.specs.Line.{fields, first, same, prepend, behind}
-
--- ---- the first field, a byte at a time
-
-module _ (l : List ℕ) (i : ℕ) where
-  pub first-end : length l ≤ i → first (drop i l) ≡ []
-  unfolding first
-  first-end h = rw drop_of_length-le
-
-  pub first_tab : i < length l → get_or l i 0 ≡ 9 → first (drop i l) ≡ []
-  unfolding first
-  first_tab h e = rw (drop-cons l i 0 h, e)
-
-  pub first_more : i < length l → (get_or l i 0 ≡ 9 → ⊥) → first (drop i l) ≡ get_or l i 0 ∷ first (drop (i + 1) l)
-  unfolding first
-  first_more h e = rw (drop-cons l i 0 h, ne_eqb (get_or l i 0) 9 e, add-one)
-
--- what a loop has passed, and the first field of what is left, make up the first field
-module _ (l : List ℕ) (i : ℕ) (sum : length (first l) ≡ i + length (first (drop i l))) where
-  pub passed-more : i < length l → (get_or l i 0 ≡ 9 → ⊥) → length (first l) ≡ i + 1 + length (first (drop (i + 1) l))
-  passed-more h e = omega (arith, ap length (first_more l i h e))
-
-  pub passed_tab : i < length l → get_or l i 0 ≡ 9 → i ≡ length (first l)
-  passed_tab h e = omega (arith, ap length (first_tab l i h e))
-
-  pub passed-end : length l ≤ i → i ≡ length (first l)
-  passed-end h = omega (arith, ap length (first-end l i h))
 
 -- ---- the first field is a front of the line
 
@@ -100,7 +73,7 @@ module _ (l : List ℕ) (at : ℕ) (inside : at ≤ length l) where
       fields-next (drop at l) (λ q. e (omega (arith, length-drop at l)))
       ∙ rw (drop-drop (suc (length (first (drop at l)))) at l, n)
 
--- ---- two words, a byte at a time
+-- ---- two words
 
 pub same_length : (a b : List ℕ) → (length a ≡ length b → ⊥) → same a b ≡ false
 unfolding same
@@ -112,20 +85,6 @@ same_length (x ∷ xs) (y ∷ ys) h = go (eqb x y) (same_length xs ys (λ e. h (
     go : (b : Bool) → same xs ys ≡ false → cond b (same xs ys) false ≡ false
     go true e = e
     go false e = refl
-
-module _ (a b : List ℕ) (i : ℕ) where
-  pub same_end : length a ≤ i → length b ≤ i → same (drop i a) (drop i b) ≡ true
-  unfolding same
-  same_end h k = rw (drop_of_length-le a h, drop_of_length-le b k)
-
-  pub same-other : i < length a → i < length b → (get_or a i 0 ≡ get_or b i 0 → ⊥) → same (drop i a) (drop i b) ≡ false
-  unfolding same
-  same-other h k e = rw (drop-cons a i 0 h, drop-cons b i 0 k, ne_eqb (get_or a i 0) (get_or b i 0) e)
-
-  pub same_more : i < length a → i < length b → get_or a i 0 ≡ get_or b i 0
-      → same (drop i a) (drop i b) ≡ same (drop (i + 1) a) (drop (i + 1) b)
-  unfolding same
-  same_more h k e = rw (drop-cons a i 0 h, drop-cons b i 0 k, eq-eqb (get_or a i 0) (get_or b i 0) e, add-one)
 
 pub same_eq : (a b : List ℕ) → same a b ≡ true → a ≡ b
 unfolding same

@@ -1,7 +1,7 @@
 -- A line of the replay text, as the bytes before its line feed, and the command that it is.
 use Rattle.std.specs.Prelude.{ℕ, ◌+◌, Bool, true, false, cond, List, [], ◌∷◌, length, drop, leb, eqb, Option, Some, None}
 use Rattle.text.specs.Ascii.{ascii}
-use Rattle.text.specs.Number.{Num, value, none, worth, bounded, number}
+use Rattle.text.specs.Number.{number}
 use Rattle.text.specs.declared.Command.{Command}
 use Rattle.text.specs.declared.Command.TheVariants.{Queue, Push, Steal, Batch, Take, Len, Empty, Pop, Step, Run}
 
@@ -49,20 +49,20 @@ with_two w a b =
 unfoldable pub with_three : List ℕ → ℕ → ℕ → ℕ → Option Command
 with_three w a b c = cond (same w (ascii "queue")) (Some (Queue a b c)) None
 
-abbrev pub one : List ℕ → Num → Option Command
-one w (value a) = with_one w a
-one w none = None
+abbrev pub one : List ℕ → Option ℕ → Option Command
+one w (Some a) = with_one w a
+one w None = None
 
-abbrev pub two : List ℕ → Num → Num → Option Command
-two w (value a) (value b) = with_two w a b
-two w (value a) none = None
-two w none b = None
+abbrev pub two : List ℕ → Option ℕ → Option ℕ → Option Command
+two w (Some a) (Some b) = with_two w a b
+two w (Some a) None = None
+two w None b = None
 
-abbrev pub three : List ℕ → Num → Num → Num → Option Command
-three w (value a) (value b) (value c) = with_three w a b c
-three w (value a) (value b) none = None
-three w (value a) none c = None
-three w none b c = None
+abbrev pub three : List ℕ → Option ℕ → Option ℕ → Option ℕ → Option Command
+three w (Some a) (Some b) (Some c) = with_three w a b c
+three w (Some a) (Some b) None = None
+three w (Some a) None c = None
+three w None b c = None
 
 abbrev pub command : List (List ℕ) → Option Command
 command [] = None
@@ -78,9 +78,9 @@ parsed line = cond (leb (length line) 80) (command (fields line)) None
 
 -- ---- a number in its line: with the place behind its field
 
-abbrev pub placed : ℕ → Num → Option (ℕ × ℕ)
-placed at (value v) = Some (v, at)
-placed at none = None
+abbrev pub placed : ℕ → Option ℕ → Option (ℕ × ℕ)
+placed at (Some v) = Some (v, at)
+placed at None = None
 
 -- where the field ends that starts at a place
 abbrev pub behind : List ℕ → ℕ → ℕ
@@ -88,7 +88,3 @@ behind line at = at + length (first (drop at line))
 
 abbrev pub number_at : List ℕ → ℕ → Option (ℕ × ℕ)
 number_at line at = placed (behind line at) (number (first (drop at line)))
-
--- the same of a field that has a digit other than 0 in front
-abbrev pub row_at : List ℕ → ℕ → Option (ℕ × ℕ)
-row_at line at = placed (behind line at) (bounded (worth 0 (first (drop at line))))

@@ -1,9 +1,8 @@
 // The replay text's definition (specs/): what a line is as a command, and how answers are spelt. Nothing here knows the
 // machine. Here are its types.
-
-// No line of the input is longer, before its line feed.
 #![tactic(auto)]
 
+// No line of the input is longer, before its line feed.
 pub const LINE_CAP: usize = 80;
 
 // The room for one line of the output, which every function that writes one asks for. No line is longer.

@@ -1,28 +1,23 @@
-use Rattle.std.proofs.Common.{sym, arith, length-take-le}
-use Rattle.text.proofs.Cases.{Word, word_le, no_third, too_many}
+use Rattle.std.proofs.Common.{arith, sym}
+use Rattle.text.proofs.Cases.{One, Two, one_le, two_le, no_third, too_many}
 use Rattle.parse.proofs.Places.{word, one, two, three}
 use Rattle.parse.proofs.parse.Goals as goal
-use Rattle.parse.proofs.parse.Goals.{Else-w-n}
+use Rattle.parse.proofs.parse.Goals.{In_ok-a, In_ok-b}
 
-at_word : (c : Else-w-n) → Word c.args.line.now c.field_end-w.result
-at_word c = word c.if-n-gt-LINE_CAP.false c.field_end-w.ensures c.if-w-n.false
+at_one : (c : In_ok-a) → One c.args.line.now c.in_ok-w.w c.in_ok-a.a c.in_ok-a.x
+at_one c = one (word c.if-n-gt-LINE_CAP.false c.in_ok-w.ensures) c.in_ok-a.ensures
 
-pub slice_bounds-word-end : goal.slice_bounds-word-end
-slice_bounds-word-end c = sym (length-take-le _ _ (word_le (at_word (goal.at.slice_bounds-word-end c).Else-w-n)))
+at_two : (c : In_ok-b) → Two c.args.line.now c.in_ok-w.w c.in_ok-a.a c.in_ok-a.x c.in_ok-b.b c.in_ok-b.y
+at_two c = two (one (word c.if-n-gt-LINE_CAP.false c.in_ok-w.ensures) c.in_ok-a.ensures) c.if-x-n.false c.in_ok-b.ensures
 
-pub overflow_add-w : goal.overflow_add-w
-overflow_add-w c = omega (arith, word_le (at_word (goal.at.overflow_add-w c).Else-w-n))
+pub overflow_add-x : goal.overflow_add-x
+overflow_add-x c = omega (arith, one_le (at_one (goal.at.overflow_add-x c).In_ok-a))
 
-pub returns-in_default-read_number-2 : goal.returns-in_default-read_number-2
-returns-in_default-read_number-2 c =
-    let w = at_word (goal.at.returns-in_default-read_number-2 c).Else-w-n in
-    let a = one w c.in-Some.ensures in
-    let b = two a c.if-x-n.false c.in-Some-read_number.ensures in
-    no_third b c.if-y-n.false (sym c.in_default-read_number-2.ensures)
+pub overflow_add-y : goal.overflow_add-y
+overflow_add-y c = omega (arith, two_le (at_two (goal.at.overflow_add-y c).In_ok-b))
+
+pub returns-in_err-c : goal.returns-in_err-c
+returns-in_err-c c = let e = no_third (at_two (goal.at.returns-in_err-c c).In_ok-b) c.if-y-n.false (sym c.in_err-c.ensures) in cc
 
 pub returns : goal.returns
-returns c =
-    let w = at_word (goal.at.returns c).Else-w-n in
-    let a = one w c.in-Some.ensures in
-    let b = two a c.if-x-n.false c.in-Some-read_number.ensures in
-    too_many (three b c.if-y-n.false c.in-Some-read_number-2.ensures) c.if-z-n.false
+returns c = too_many (three (at_two (goal.at.returns c).In_ok-b) c.if-y-n.false c.in_ok-c.ensures) c.if-z-n.false
