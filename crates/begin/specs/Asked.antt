@@ -29,7 +29,7 @@ module _ (t : Thread) (what : Request) where
   abbrev given : Bool → Bool → Bool → Given Unit
   given idle limit room = cond idle (cond limit (cond room (begun t what) (not_given t NoRoom)) (not_given t NoLimit)) (not_given t Busy)
 
-  told : {s r : Refusal} → Err s ≡ Err r → not_given t s ≡ not_given t r
+  told : {s r : Refusal} → ◌≡◌ {A = Result Unit Refusal} (Err s) (Err r) → ◌≡◌ {A = Given Unit} (not_given t s) (not_given t r)
   told {s} {r} e = let z : s ≡ r = cc in ap (not_given t) z
 
   given-refused : (idle limit room : Bool) (r : Refusal) → asked idle limit room ≡ Err r → given idle limit room ≡ not_given t r

@@ -8,7 +8,9 @@ ghost use Rattle.state.specs.declared.Answer.TheVariants.{Open};
 ghost use Rattle.state.specs.Move as move;
 ghost use Rattle.machine.specs.Entry.{not_given};
 
-use state::{Answer, Call, Made, Queue, Refusal, Thread};
+use state::{
+    Answer, Call, EmptyLine, Kind, LengthLine, Made, PushLine, Queue, Refusal, StealLine, Thread,
+};
 
 pub mod steals;
 
@@ -21,6 +23,39 @@ pub enum Request {
     Take(u64),
     Len,
     Empty,
+}
+
+// A begin opens its call at the call's first line.
+impl From<Request> for Call {
+    ghost use Rattle.machine.specs.Entry.{opened};
+
+    ghost from_gives = { λ what call. call ≡ opened what };
+
+    fn from(what: Request) -> Call {
+        match what {
+            Request::Push(token) => PushLine::P1(token, None).into(),
+            Request::Steal | Request::Batch(_) | Request::Take(_) => {
+                StealLine::S1(Kind::from(what)).into()
+            }
+            Request::Len => LengthLine::L1.into(),
+            Request::Empty => EmptyLine::E1.into(),
+        }
+    }
+}
+
+// The kind whose limit and room a begin tests; a call that is no batch is tested as a steal, which has neither.
+impl From<Request> for Kind {
+    ghost use Rattle.machine.specs.Entry.{tested_as};
+
+    ghost from_gives = { λ what kind. kind ≡ tested_as what };
+
+    fn from(what: Request) -> Kind {
+        match what {
+            Request::Batch(limit) => Kind::Batch(limit),
+            Request::Take(limit) => Kind::Take(limit),
+            Request::Push(_) | Request::Steal | Request::Len | Request::Empty => Kind::Steal,
+        }
+    }
 }
 
 // What an entry that makes no step gives back: a begin its Ok alone, a ring pop the token, if there was one.
