@@ -12,17 +12,15 @@ use state::{Queue, Thread};
 pub fn pop(q: Queue, pool: &[u64], thread: Thread, number: u64) -> Given<Option<u64>>
     ensures { result ≡ pop_entry q pool.now thread number }
 {
-    let tested = test_idle(q, pool, thread, number);
-    if let Err(refusal) = tested {
+    if let Err(refusal) = test_idle(q, pool, thread, number) {
         return not_given(thread, refusal);
     }
     let popped = thread.ring.pop();
-    let ring = popped.ring;
-    let call = thread.call;
-    let taken = thread.taken;
-    let answer = Ok(popped.token);
     Given {
-        thread: Thread { ring, call, taken },
-        answer,
+        thread: Thread {
+            ring: popped.ring,
+            ..thread
+        },
+        answer: Ok(popped.token),
     }
 }

@@ -9,4 +9,4 @@ returns-in-Err c = c.not_given.ensures ∙ sym (pop-not-idle _ _ _ _ (sym c.in-E
 pub returns : goal.returns
 returns c =
     let vacant = is_vacant _ _ _ _ (sym c.in_default.ensures) in
-    rw (pop-made _ _ _ _ vacant.passes vacant.idle) (rw (c.popped_as-answer.ensures, c.pop-popped.ensures))
+    rw (pop-made _ _ _ _ vacant.passes vacant.idle) (rw c.pop-popped.ensures)
