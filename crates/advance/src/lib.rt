@@ -18,8 +18,7 @@ pub fn advance(q: Queue, pool: &mut [u64], thread: Thread) -> Stepped
     ensures pool_after { pool.new ≡ after pool.old (step_of q pool.old thread).touch }
 {
     let call = thread.call;
-    let made;
-    match call {
+    let made = match call {
         Call::Idle => {
             return Stepped {
                 queue: q,
@@ -27,10 +26,10 @@ pub fn advance(q: Queue, pool: &mut [u64], thread: Thread) -> Stepped
                 answer: Answer::Open,
             };
         }
-        Call::Push(line) => made = push::step(q, pool, line),
+        Call::Push(line) => push::step(q, pool, line),
         Call::Steal(line) => return steal::step(q, pool, thread, line),
-        Call::Length(line) => made = count::length(q, line),
-        Call::Empty(line) => made = count::empty(q, line),
-    }
+        Call::Length(line) => count::length(q, line),
+        Call::Empty(line) => count::empty(q, line),
+    };
     state::settle(thread, made)
 }

@@ -11,6 +11,7 @@ use state::{Made, PushLine, Queue};
 
 // Both `requires` say that no sum of a line wraps. The entries test the BAD_STATE list, which has both,
 // before they make a step.
+#[tactic(auto, using(crate::proofs::Loads::loads))]
 pub fn step(q: Queue, pool: &mut [u64], line: PushLine) -> Made
     requires line_value { push_good q line ≡ true }
     requires raw_bound { position q.tail.raw ≤ 4294967295 * 64 }
@@ -18,15 +19,15 @@ pub fn step(q: Queue, pool: &mut [u64], line: PushLine) -> Made
     ensures pool_after { pool.new ≡ after pool.old (spec.push q pool.old line).touch }
 {
     match line {
-        PushLine::P1(token, held) => return loading::p1(q, token, held),
-        PushLine::P2(token, t, held) => return loading::p2(q, token, t, held),
-        PushLine::P3(token, t, b) => return ticket::p3(q, pool, token, t, b),
-        PushLine::P4(token, t, b, held) => return ticket::p4(q, token, t, b, held),
-        PushLine::P5(token, t, b, held) => return deliver::p5(q, token, t, b, held),
-        PushLine::P6(token, t, b, held) => return deliver::p6(q, token, t, b, held),
-        PushLine::P7(token, t, b, held) => return deliver::p7(q, pool, token, t, b, held),
-        PushLine::P8(token, t, b, held) => return deliver::p8(q, pool, token, t, b, held),
-        PushLine::P9(token, t, b, held) => return deliver::p9(q, pool, token, t, b, held),
-        PushLine::P10(held, spent) => return deliver::p10(q, pool, held, spent),
+        PushLine::P1(token, held) => loading::p1(q, token, held),
+        PushLine::P2(token, t, held) => loading::p2(q, token, t, held),
+        PushLine::P3(token, t, b) => ticket::p3(q, pool, token, t, b),
+        PushLine::P4(token, t, b, held) => ticket::p4(q, token, t, b, held),
+        PushLine::P5(token, t, b, held) => deliver::p5(q, token, t, b, held),
+        PushLine::P6(token, t, b, held) => deliver::p6(q, token, t, b, held),
+        PushLine::P7(token, t, b, held) => deliver::p7(q, pool, token, t, b, held),
+        PushLine::P8(token, t, b, held) => deliver::p8(q, pool, token, t, b, held),
+        PushLine::P9(token, t, b, held) => deliver::p9(q, pool, token, t, b, held),
+        PushLine::P10(held, spent) => deliver::p10(q, pool, held, spent),
     }
 }

@@ -57,7 +57,7 @@ fn after_reads(won: Won, claim: Claim) -> StealLine
 
 // The list was tested before the step: the slot is one of the claim, so that its place is one of `taken`,
 // and the ring has room for what it is handed.
-#[tactic(auto, unfolding(machine::specs::Steal::s10, state::specs::List::steal_good))]
+#[tactic(auto, using(machine::specs::StealLaws::reads), unfolding(machine::specs::Steal::s10, state::specs::List::steal_good))]
 pub fn s10(q: Queue, pool: &[u64], thread: Thread, kind: Kind, claim: Claim, slot: u64) -> Stepped
     requires slot_value { steal_good q thread.ring.count (StealLine.S10 kind claim slot) ≡ true }
     requires count_bound { thread.ring.count ≤ 64 }
