@@ -237,14 +237,12 @@ impl From<Refusal> for u64 {
 pub fn settle(thread: Thread, made: Made) -> Stepped
     ensures { result ≡ settle thread made }
 {
-    let ring = thread.ring;
-    let taken = thread.taken;
-    let queue = made.queue;
-    let call = made.call;
-    let answer = made.answer;
     Stepped {
-        queue,
-        thread: Thread { ring, call, taken },
-        answer,
+        queue: made.queue,
+        thread: Thread {
+            call: made.call,
+            ..thread
+        },
+        answer: made.answer,
     }
 }
