@@ -10,8 +10,8 @@ use Rattle.text.specs.declared.Command.{Command}
 use Rattle.replayed.specs.declared.Stage.{Stage}
 use Rattle.replayed.specs.declared.Stage.TheVariants.{First, Open, Over}
 use Rattle.replayed.specs.declared.Replay.{Replay}
-use Rattle.replayed.specs.Replay.{most, over, at_first, queue_line, line_of, line_feed, other_byte, byte_told, told}
-use Rattle.replayed.proofs.Orders.{ordered_by, first_cases, later_cases}
+use Rattle.replayed.specs.Replay.{ordered_by, most, over, at_first, queue_line, line_of, line_feed, other_byte, byte_told, told}
+use Rattle.replayed.proofs.Orders.{first_cases, later_cases}
 
 pub record Counted (r : Replay) : Type 0 where
   pub number : r.number ≤ most

@@ -23,10 +23,10 @@ use Rattle.replayed.specs.declared.Stage.{Stage}
 use Rattle.replayed.specs.declared.Stage.TheVariants.{First, Open, Over}
 use Rattle.replayed.specs.declared.Replay.{Replay}
 use Rattle.replayed.specs.Command.{thread_number, order_of}
-use Rattle.replayed.specs.Replay.{pool_of, pool_back, thread_of, queue_line, line_of, line_feed, other_byte, byte_told, told, at_first, replayed}
+use Rattle.replayed.specs.Replay.{ordered_by, pool_of, pool_back, thread_of, queue_line, line_of, line_feed, other_byte, byte_told, told, at_first, replayed}
 use Rattle.replayed.specs.Feed.{is_over, taken, reads, fed, ends}
 use Rattle.replayed.specs.Cuts.{Lent, driven}
-use Rattle.replayed.proofs.Orders.{ordered_by, first_cases, later_cases, few-blocks}
+use Rattle.replayed.proofs.Orders.{first_cases, later_cases, few-blocks}
 use Rattle.replayed.proofs.Cuts.{no-cut_matters}
 
 -- ---- the entries

@@ -15,18 +15,13 @@ use Rattle.memory.specs.Pool.{fresh, pool_len}
 use Rattle.machine.specs.Entry.{set_up_pool}
 use Rattle.text.specs.declared.Command.{Command}
 use Rattle.replayed.specs.declared.Replay.{Replay}
-use Rattle.replayed.specs.Command.{thread_number, order_of}
-use Rattle.replayed.specs.Replay.{Told, bad, queue_line, pool_of, pool_back, thread_of, ordered, first_line, later_line}
+use Rattle.replayed.specs.Replay.{Told, bad, queue_line, pool_back, ordered_by, first_line, later_line}
 use Rattle.replayed.specs.Feed.{is_queue, later_of, opening_of}
 
 module _ (r : Replay) (m : List ℕ) where
-  -- a command of a thread
-  abbrev pub ordered_by : Command → Told
-  ordered_by c = ordered r m (thread_number c) (order_of r.queue (pool_of r m) (thread_of r (thread_number c)) c)
-
   -- what holds of a malformed line and of each command of a thread holds of every line after line 1
   pub later_cases : (P : Option Command → Told → Type 0) → P None (bad r m) → ((x y z : ℕ) → P (Some (Command.Queue x y z)) (bad r m))
-      → ((c : Command) → is_queue c ≡ false → P (Some c) (ordered_by c)) → (p : Option Command) → P p (later_line r m p)
+      → ((c : Command) → is_queue c ≡ false → P (Some c) (ordered_by r m c)) → (p : Option Command) → P p (later_line r m p)
   later_cases P b q o None = b
   later_cases P b q o (Some (Command.Queue x y z)) = q x y z
   later_cases P b q o (Some (Command.Push n token)) = o (Command.Push n token) refl
@@ -54,10 +49,10 @@ module _ (r : Replay) (m : List ℕ) where
   first_cases P b q o (Some (Command.Step n)) = o (Command.Step n) refl
   first_cases P b q o (Some (Command.Run n budget)) = o (Command.Run n budget) refl
 
-  pub later-good : (p : Option Command) {c : Command} → later_of p ≡ Some c → later_line r m p ≡ ordered_by c
+  pub later-good : (p : Option Command) {c : Command} → later_of p ≡ Some c → later_line r m p ≡ ordered_by r m c
   later-good p {c} =
-      later_cases (λ p t. later_of p ≡ Some c → t ≡ ordered_by c) (λ e. cc) (λ x y z e. cc)
-      (λ d q e. let same : d ≡ c = (let g : Some d ≡ Some c = rw q at e in cc) in ap ordered_by same)
+      later_cases (λ p t. later_of p ≡ Some c → t ≡ ordered_by r m c) (λ e. cc) (λ x y z e. cc)
+      (λ d q e. let same : d ≡ c = (let g : Some d ≡ Some c = rw q at e in cc) in ap (ordered_by r m) same)
       p
 
   pub later-bad : (p : Option Command) → later_of p ≡ None → later_line r m p ≡ bad r m

@@ -119,11 +119,16 @@ module _ (piece : List ℕ) (r : Replay) (m : List ℕ) (read : ℕ) (out : List
 -- ---- a feed as a whole
 
 module _ (r : Replay) (m piece : List ℕ) where
-  pub fed-short : (free : ℕ) → length m < 4096 → (reads r m piece free ≡ 0) × (fed r m piece free ≡ nothing r m)
-  unfolding fed told
-  fed-short free h = rw (lt-leb 4096 (length m) h) (refl, refl)
+  -- with less lent than the largest pool needs
+  module _ (free : ℕ) (short : length m < 4096) where
+    pub short-read : reads r m piece free ≡ 0
+    short-read = rw (lt-leb 4096 (length m) short)
 
-  pub fed_long : (out : List ℕ) → 4096 ≤ length m
+    pub short-fed : fed r m piece free ≡ nothing r m
+    unfolding fed told
+    short-fed = rw (lt-leb 4096 (length m) short)
+
+  fed_long : (out : List ℕ) → 4096 ≤ length m
       → outcome piece r m 0 out 0
       ≡ at (fed r m piece (length out)).replay (fed r m piece (length out)).pool (reads r m piece (length out))
       (sets out 0 (fed r m piece (length out)).out) (0 + length (fed r m piece (length out)).out)
@@ -132,30 +137,38 @@ module _ (r : Replay) (m piece : List ℕ) where
       let e : length out - 0 ≡ length out = omega arith in
       rw (le-leb 4096 (length m) h, e, zero-add)
 
-  pub fed_came : (out : List ℕ) (f : Fed) (m2 out2 : List ℕ) → 4096 ≤ length m → Came piece r m 0 out 0 f m2 out2
-      → (f.read ≡ reads r m piece (length out))
-      × ((f.replay ≡ (fed r m piece (length out)).replay)
-      × ((m2 ≡ (fed r m piece (length out)).pool)
-      × ((out2 ≡ sets out 0 (fed r m piece (length out)).out)
-      × ((f.written ≡ length (fed r m piece (length out)).out)
-      × ((f.read ≤ length piece)
-      × (f.written ≤ length out))))))
-  fed_came out f m2 out2 h c =
-      let e = c.comes ∙ fed_long out h in (
-        ap (λ (o : Outcome). o.read) e,
-        (
-          ap (λ (o : Outcome). o.replay) e,
-          (
-            ap (λ (o : Outcome). o.pool) e,
-            (
-              ap (λ (o : Outcome). o.buffer) e,
-              (ap (λ (o : Outcome). o.written) e ∙ zero-add _, (c.inside, c.fits)),
-            ),
-          ),
-        ),
-      )
+-- with as much
+module _ {piece : List ℕ} {r : Replay} {m out : List ℕ} {f : Fed} {m2 out2 : List ℕ} (long : 4096 ≤ length m) (c : Came piece r m 0 out 0 f m2 out2) where
+  comes : at f.replay m2 f.read out2 f.written
+      ≡ at (fed r m piece (length out)).replay (fed r m piece (length out)).pool (reads r m piece (length out))
+      (sets out 0 (fed r m piece (length out)).out) (0 + length (fed r m piece (length out)).out)
+  comes = c.comes ∙ fed_long r m piece out long
 
-pub first-not : {s : Stage} → s ≡ First → is_first s ≡ false → ⊥
-first-not {s = First} e h = let z : ◌≡◌ {A = ℕ} 0 1 = cc in omega arith
-first-not {s = Open} e h = let z : ◌≡◌ {A = ℕ} 0 1 = cc in omega arith
-first-not {s = Over} e h = let z : ◌≡◌ {A = ℕ} 0 1 = cc in omega arith
+  pub came-read : f.read ≡ reads r m piece (length out)
+  came-read = ap (λ (o : Outcome). o.read) comes
+
+  pub came-replay : f.replay ≡ (fed r m piece (length out)).replay
+  came-replay = ap (λ (o : Outcome). o.replay) comes
+
+  pub came-pool : m2 ≡ (fed r m piece (length out)).pool
+  came-pool = ap (λ (o : Outcome). o.pool) comes
+
+  pub came-buffer : out2 ≡ sets out 0 (fed r m piece (length out)).out
+  came-buffer = ap (λ (o : Outcome). o.buffer) comes
+
+  pub came-written : f.written ≡ length (fed r m piece (length out)).out
+  came-written = ap (λ (o : Outcome). o.written) comes ∙ zero-add _
+
+-- past line 1 and not open
+pub over_now : {s : Stage} → is_first s ≡ false → (s ≡ Open → ⊥) → s ≡ Over
+over_now {s = First} e h = cc
+over_now {s = Open} e h = absurd (h refl)
+over_now {s = Over} e h = refl
+
+-- a feed whose buffer was lent on, and came back as it was left
+module _ {piece : List ℕ} {r : Replay} {m : List ℕ} {read : ℕ} {written : ℕ} {f : Fed} {m2 : List ℕ} where
+  pub came_back : {out left back : List ℕ} → back ≡ left → Came piece r m read out written f m2 left → Came piece r m read out written f m2 back
+  came_back e c = rw e c
+
+  pub came_from : {left back out : List ℕ} → back ≡ left → Came piece r m read back written f m2 out → Came piece r m read left written f m2 out
+  came_from e c = rw e at c

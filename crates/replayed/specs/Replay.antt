@@ -14,7 +14,7 @@ use Rattle.text.specs.declared.Command.{Command}
 use Rattle.replayed.specs.declared.Stage.{Stage}
 use Rattle.replayed.specs.declared.Stage.TheVariants.{First, Open, Over}
 use Rattle.replayed.specs.declared.Replay.{Replay}
-use Rattle.replayed.specs.Command.{Ordered, begins, pops, steps_one, runs, said_bytes}
+use Rattle.replayed.specs.Command.{Ordered, begins, pops, steps_one, runs, thread_number, order_of, said_bytes}
 
 -- line numbers and the count of steps stop at the largest 64-bit number
 abbrev pub most : ℕ
@@ -139,6 +139,10 @@ ordered r m n o =
       pool = pool_back o.pool m;
       out = said_bytes r.number n o.done.said;
     }
+
+-- what a command of a thread makes: of that thread's record, and of the words that the queue uses
+abbrev pub ordered_by : Replay → List ℕ → Command → Told
+ordered_by r m c = ordered r m (thread_number c) (order_of r.queue (pool_of r m) (thread_of r (thread_number c)) c)
 
 abbrev pub later_command : Replay → List ℕ → Command → Told
 later_command r m (Command.Queue threads blocks ceiling) = bad r m

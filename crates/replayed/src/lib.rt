@@ -4,6 +4,9 @@
 use state::{Queue, Thread};
 use text::Word;
 
+// A byte is read only where all that it may make has room in the lent buffer.
+pub const ROOM: usize = 256;
+
 // What is said of a command: nothing, a word, or a word with a number.
 #[derive(Clone, Copy)]
 pub enum Said {
@@ -46,14 +49,5 @@ pub struct Replay {
 pub struct Fed {
     pub replay: Replay,
     pub read: usize,
-    pub written: usize,
-}
-
-// What a command of one thread changes.
-#[derive(Clone, Copy)]
-pub struct Heard {
-    pub queue: Queue,
-    pub thread: Thread,
-    pub steps: u64,
     pub written: usize,
 }
