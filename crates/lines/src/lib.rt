@@ -13,9 +13,5 @@ pub use says::{saturating, say, say_bad, say_end, say_refused};
 pub fn words(blocks: u64, len: usize) -> usize
     ensures { result ≡ min (blocks * 128) len }
 {
-    let most = len as u64;
-    if most / 128 < blocks {
-        return len;
-    }
-    (blocks * 128) as usize
+    blocks.saturating_mul(128).min(len as u64) as usize
 }

@@ -1,5 +1,0 @@
-use Rattle.text.proofs.Writing.{then}
-use Rattle.lines.proofs.says.say_bad.Goals as goal
-
-pub returns-clause-wrote : goal.returns-clause-wrote
-returns-clause-wrote c = then c.put_bad-next.ensures c.put_end.ensures

@@ -1,0 +1,146 @@
+// Whole lines of the output: fields parted by tabs, and a line feed. A method that writes a line asks for the room of one,
+// LINE_ROOM bytes: its caller writes out what it has before less is left. No line is longer, so none asks how long its own
+// will be.
+ghost use Rattle.std.specs.Prelude.{◌+◌, ◌≤◌, length, [], ◌∷◌, ◌++◌};
+ghost use Rattle.text.specs.Number.{digits};
+ghost use Rattle.text.specs.Print.{word_bytes, line_bytes, line_number_bytes, bad_bytes, refused_bytes, end_bytes, queue_bytes};
+ghost use Rattle.print.specs.Output.{Adds};
+
+use itoa::Buffer;
+use text::Word;
+
+// A lent buffer, and how many bytes are written at its front. (std's `write!` into a slice answers a Result, and no clause
+// of it says which bytes were written or that there was room.)
+#[derive(Drop)]
+pub struct Output<'a> {
+    pub bytes: &'a mut [u8],
+    pub written: usize,
+}
+
+impl Output<'_> {
+    #[tactic(auto, using(crate::proofs::Pieces::pieces))]
+    fn put(&mut self, s: &str)
+        // the caller has the room: a line's is asked for once, where the line begins
+        requires { self.old.written + length s.now ≤ length self.old.bytes.now }
+        ensures { Adds self.old s.now self.new }
+    {
+        let end = self.written + s.len();
+        self.bytes[self.written..end].copy_from_slice(s.as_bytes());
+        self.written = end;
+    }
+
+    #[tactic(auto, using(crate::proofs::Pieces::pieces))]
+    pub fn number(&mut self, n: u64)
+        // no number of 64 bits has more than 20 digits
+        requires { self.old.written + 20 ≤ length self.old.bytes.now }
+        ensures { Adds self.old (digits n) self.new }
+    {
+        self.put(Buffer::new().format(n));
+    }
+
+    #[tactic(auto, using(crate::proofs::Pieces::pieces))]
+    pub fn word(&mut self, word: Word)
+        // no word has more than 7 letters
+        requires { self.old.written + 7 ≤ length self.old.bytes.now }
+        ensures { Adds self.old (word_bytes word) self.new }
+    {
+        self.put(word.as_str());
+    }
+
+    fn tab(&mut self)
+        requires { self.old.written + 1 ≤ length self.old.bytes.now }
+        ensures { Adds self.old (9 ∷ []) self.new }
+    {
+        self.put("\t");
+    }
+
+    fn line_feed(&mut self)
+        requires { self.old.written + 1 ≤ length self.old.bytes.now }
+        ensures { Adds self.old (10 ∷ []) self.new }
+    {
+        self.put("\n");
+    }
+
+    // Line number, thread, word.
+    #[tactic(auto, using(crate::proofs::Pieces::pieces), unfolding(text::specs::Print::line_bytes))]
+    pub fn plain(&mut self, line: u64, thread: u64, word: Word)
+        requires { self.old.written + 100 ≤ length self.old.bytes.now }
+        ensures { Adds self.old (line_bytes line thread word) self.new }
+    {
+        self.number(line);
+        self.tab();
+        self.number(thread);
+        self.tab();
+        self.word(word);
+        self.line_feed();
+    }
+
+    // Line number, thread, word, number.
+    #[tactic(auto, using(crate::proofs::Pieces::pieces), unfolding(text::specs::Print::line_number_bytes))]
+    pub fn numbered(&mut self, line: u64, thread: u64, word: Word, n: u64)
+        requires { self.old.written + 100 ≤ length self.old.bytes.now }
+        ensures { Adds self.old (line_number_bytes line thread word n) self.new }
+    {
+        self.number(line);
+        self.tab();
+        self.number(thread);
+        self.tab();
+        self.word(word);
+        self.tab();
+        self.number(n);
+        self.line_feed();
+    }
+
+    // The line that ends a replay at a malformed line.
+    #[tactic(auto, using(crate::proofs::Pieces::pieces), unfolding(text::specs::Print::bad_bytes))]
+    pub fn bad(&mut self, line: u64)
+        requires { self.old.written + 100 ≤ length self.old.bytes.now }
+        ensures { Adds self.old (bad_bytes line) self.new }
+    {
+        self.number(line);
+        self.tab();
+        self.word(Word::Bad);
+        self.line_feed();
+    }
+
+    // A refusal that is no thread's: a queue line with a count out of its range.
+    #[tactic(auto, using(crate::proofs::Pieces::pieces), unfolding(text::specs::Print::refused_bytes))]
+    pub fn refused(&mut self, line: u64, n: u64)
+        requires { self.old.written + 100 ≤ length self.old.bytes.now }
+        ensures { Adds self.old (refused_bytes line n) self.new }
+    {
+        self.number(line);
+        self.tab();
+        self.word(Word::Refused);
+        self.tab();
+        self.number(n);
+        self.line_feed();
+    }
+
+    #[tactic(auto, using(crate::proofs::Pieces::pieces), unfolding(text::specs::Print::end_bytes))]
+    pub fn end(&mut self, steps: u64)
+        requires { self.old.written + 100 ≤ length self.old.bytes.now }
+        ensures { Adds self.old (end_bytes steps) self.new }
+    {
+        self.word(Word::End);
+        self.tab();
+        self.number(steps);
+        self.line_feed();
+    }
+
+    // The queue line again. A number has one spelling only, so these are the very bytes that came in.
+    #[tactic(auto, using(crate::proofs::Pieces::pieces), unfolding(text::specs::Print::queue_bytes))]
+    pub fn queue(&mut self, threads: u64, blocks: u64, ceiling: u64)
+        requires { self.old.written + 100 ≤ length self.old.bytes.now }
+        ensures { Adds self.old (queue_bytes threads blocks ceiling ++ (10 ∷ [])) self.new }
+    {
+        self.word(Word::Queue);
+        self.tab();
+        self.number(threads);
+        self.tab();
+        self.number(blocks);
+        self.tab();
+        self.number(ceiling);
+        self.line_feed();
+    }
+}
