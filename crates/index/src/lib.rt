@@ -55,17 +55,14 @@ impl Index {
         }
     }
 
-    // HAS_NEXT kept, or added where `next` says so. It fits: an even number is not the largest.
+    // HAS_NEXT kept, or added where `next` says so.
+    #[tactic(auto, using(crate::proofs::Bit::or_one))]
     pub fn with_next(self, next: bool) -> Index
         ensures { result.raw ≡ with_next self.raw next }
     {
-        let raw = self.raw;
         if next {
-            if raw % 2 == HAS_NEXT {
-                return self;
-            }
             return Index {
-                raw: raw + HAS_NEXT,
+                raw: self.raw | HAS_NEXT,
             };
         }
         self
@@ -77,12 +74,9 @@ impl Index {
         requires { self.raw + 3 < 2 ^ 64 }
         ensures { result.raw ≡ left_lap self.raw next }
     {
-        let clear = self.raw - self.raw % 2;
-        if next {
-            return Index {
-                raw: clear + 2 + HAS_NEXT,
-            };
-        }
-        Index { raw: clear + 2 }
+        let left = Index {
+            raw: self.raw - self.raw % 2 + 2,
+        };
+        left.with_next(next)
     }
 }

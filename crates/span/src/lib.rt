@@ -11,7 +11,7 @@ use index::{BLOCK_CAP, Index, LAP};
 pub fn same_position(a: Index, b: Index) -> bool
     ensures { result ≡ eqb (position a.raw) (position b.raw) }
 {
-    a.raw / 2 == b.raw / 2
+    a.position() == b.position()
 }
 
 // A place past a block's slots is the next lap's first. Half of any 64-bit number meets the bound, so
@@ -27,19 +27,14 @@ fn moved_on(position: u64) -> u64
 }
 
 // The Rust's `Injector::len`, of the two indices it loaded.
+#[tactic(auto, unfolding(index::specs::Length::len))]
 pub fn length(tail: Index, head: Index) -> u64
     ensures { result ≡ len (position tail.raw) (position head.raw) }
 {
     let t = moved_on(tail.position());
     let h = moved_on(head.position());
     let first = h / LAP * LAP;
-    if t < first {
-        return 0;
-    }
-    let far = t - first;
+    let far = t.saturating_sub(first);
     let near = h - first;
-    if far < near + far / LAP {
-        return 0;
-    }
-    far - near - far / LAP
+    far.saturating_sub(near).saturating_sub(far / LAP)
 }
