@@ -28,16 +28,15 @@ pub fn setup(threads: u64, blocks: u64, ceiling: u64, pool: &mut [u64]) -> Start
     ensures pool_after { pool.new ≡ set_up_pool threads blocks ceiling pool.old }
 {
     let queue = at_start(threads, blocks, ceiling);
-    let len = pool.len() as u64;
-    if list::setup_good(queue, len) {
-        supply::reset(pool, blocks);
+    if !list::setup_good(queue, pool.len() as u64) {
         return Started {
             queue,
-            answer: Ok(()),
+            answer: Err(Refusal::BadSetup),
         };
     }
+    supply::reset(pool, blocks);
     Started {
         queue,
-        answer: Err(Refusal::BadSetup),
+        answer: Ok(()),
     }
 }
