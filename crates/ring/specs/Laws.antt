@@ -2,13 +2,13 @@
 use Prim.Native.Nat.{ℕ, suc, ◌+◌, ◌-◌, ◌≤◌, ◌<◌}
 use Rattle.std.specs.Prelude.{Some, None, ◌≡◌, Bool, true, false, cond, take, drop, get_or, eqb}
 use Rattle.std.proofs.Math.Path.{refl, ap}
-use Rattle.std.proofs.Common.{sym, ◌∙◌, ⊎_elim, le_of_suc-le-suc, eq-or-lt_of_le, length-append, length-drop, length-take-le, take_at, take-take, get_or-take, get_or-drop, eq-eqb, ne_eqb, eqb-true}
-use mathlib.Core.List.{List, [], ◌∷◌, ◌++◌, reverse, reverse-cons}
+use Rattle.std.proofs.Common.{sym, ◌∙◌, length-append, length-drop, length-take-le, take_at, take-take, get_or-take, get_or-drop, eq-eqb, ne_eqb, eqb-true}
+use mathlib.Core.List.{List, [], ◌∷◌, ◌++◌}
 use native.Mathlib.Omega.{arith}
-use Rattle.std.proofs.Math.ListN.{length, get_or-append}
-use Rattle.std.proofs.lemmas.List.{length-reverse, get_or_at, take-append-le}
+use Rattle.std.proofs.Math.ListN.{length}
+use Rattle.std.proofs.lemmas.List.{length-reverse, get_or_at, get_or-reverse, take-append-le, drop-take}
 use Rattle.std.proofs.lemmas.List.Edits.{sets, sets-eq, take-paste}
-use Rattle.std.proofs.Math.Seq.{slice, paste, length-sets, length-slice, take-length, take-nil}
+use Rattle.std.proofs.Math.Seq.{slice, paste, length-sets, length-slice, take-length}
 use Rattle.ring.specs.declared.Flavor.{Flavor}
 use Rattle.ring.specs.declared.Flavor.TheVariants.{Fifo, Lifo}
 use Rattle.ring.specs.declared.Ring.{Ring}
@@ -23,20 +23,6 @@ length-in_order Lifo l = length-reverse l
 pub length_arriving : (f : Flavor) (batch : List ℕ) (first end : ℕ) → end ≤ length batch → length (in_order f (slice first end batch)) ≡ end - first
 length_arriving f batch first end fits = length-in_order f (slice first end batch) ∙ length-slice first end batch fits
 
-get_d_reverse : (l : List ℕ) (i : ℕ) → i < length l → get_or (reverse l) i 0 ≡ get_or l (length l - 1 - i) 0
-get_d_reverse [] i h = absurd (omega arith)
-get_d_reverse (x ∷ xs) i h =
-    rw reverse-cons
-    (⊎_elim
-    (λ e.
-    let first : suc (length xs) - 1 - i ≡ 0 = omega arith in
-    rw first (get_or_at (reverse xs) x [] 0 i (length-reverse xs ∙ sym e)))
-    (λ lt.
-    let later : suc (length xs) - 1 - i ≡ suc (length xs - 1 - i) = omega arith in
-    let inside : i < length (reverse xs) = rw length-reverse lt in
-    rw later (get_or-append (reverse xs) (x ∷ []) 0 i inside ∙ get_d_reverse xs i lt))
-    (eq-or-lt_of_le (le_of_suc-le-suc h)))
-
 get_d_slice : (batch : List ℕ) (first end j : ℕ) → first + j < end
     → get_or (slice first end batch) j 0 ≡ get_or batch (first + j) 0
 get_d_slice batch first end j inside = rw (get_or-drop, get_or-take)
@@ -47,7 +33,7 @@ in_order-at Fifo batch first end j fits inside = get_d_slice batch first end j i
 in_order-at Lifo batch first end j fits inside =
     let n : length (slice first end batch) ≡ end - first = length-slice first end batch fits in
     let at : first + (end - first - 1 - j) ≡ end - 1 - j = omega arith in
-    get_d_reverse (slice first end batch) j (omega arith)
+    get_or-reverse (slice first end batch) j 0 (omega arith)
     ∙ rw n (get_d_slice batch first end (end - first - 1 - j) (omega arith) ∙ rw at)
 
 -- a run of stores within the list, as the copy that a loop makes of it
@@ -112,10 +98,6 @@ pub popped-less : (r : Ring) → OneLess r (popped r).ring
 unfolding popped
 popped-less r = less r (eqb r.count 0) (eqb-true r.count 0)
 
-take-drop-one : (n : ℕ) (l : List ℕ) → take n (drop 1 l) ≡ drop 1 (take (suc n) l)
-take-drop-one n [] = take-nil n
-take-drop-one n (x ∷ xs) = refl
-
 module _ (r : Ring) (sized : length r.tokens ≡ 64) (held : r.count ≤ 64) where
   pub length-contents : length (contents r) ≡ r.count
   length-contents = length-take-le r.count r.tokens (omega arith)
@@ -131,12 +113,12 @@ module _ (r : Ring) (sized : length r.tokens ≡ 64) (held : r.count ≤ 64) whe
       let oldest : get_or r.tokens 0 0 ≡ x =
       sym (get_or-take r.count r.tokens 0 0 (omega arith)) ∙ ap (λ (l : List ℕ). get_or l 0 0) e
       in
-      let one : suc (r.count - 1) ≡ r.count = omega arith in
+      let one : 1 + (r.count - 1) ≡ r.count = omega arith in
       let under : r.count - 1 ≤ length (drop 1 r.tokens) = simp length-drop (omega arith) in (
         rw p (ap Some oldest),
         rw p
             (take-append-le (r.count - 1) (drop 1 r.tokens) (drop 63 r.tokens) under
-            ∙ take-drop-one (r.count - 1) r.tokens
+            ∙ sym (drop-take 1 (r.count - 1) r.tokens)
             ∙ ap (λ (k : ℕ). drop 1 (take k r.tokens)) one
             ∙ ap (λ (l : List ℕ). drop 1 l) e),
       )
