@@ -12,7 +12,7 @@ use Rattle.text.specs.Number.{number, digits}
 use Rattle.text.specs.Line.{fields, prepend, same, with_one, with_two, with_three, one, two, three, command, parsed}
 use Rattle.text.specs.Print.{word_bytes, queue_bytes}
 use Rattle.text.specs.declared.Command.{Command}
-use Rattle.text.proofs.Parting.{same_eq}
+use Rattle.text.proofs.Parting.{same-Decides}
 use Rattle.text.proofs.Digits.{spelt-once}
 
 -- ---- the fields of a line, put together again
@@ -91,7 +91,7 @@ spelt-queue w x y z u v t ex ey ez true s a b c e =
     let first : x ≡ digits u = spelt-once x u ex in
     let second : y ≡ digits v = spelt-once y v ey in
     let third : z ≡ digits t = spelt-once z t ez in
-    let word : w ≡ ascii "queue" = same_eq w (ascii "queue") s in
+    let word : w ≡ ascii "queue" = (same-Decides w (ascii "queue")).0 s in
     cc
 spelt-queue w x y z u v t ex ey ez false s a b c e = spelt-bad (w ∷ x ∷ y ∷ z ∷ []) a b c e
 

@@ -8,7 +8,8 @@ use native.Mathlib.Omega.{arith}
 use lib.ListN.{length, take, drop, length-drop}
 use lib.Seq.{drop-drop}
 use lib.Dec.{eqb}
-use borrow.Author.Tests.{eqb-true}
+use Rattle.std.proofs.Common.{rules, Decides}
+use Rattle.std.proofs.lemmas.Slice.Eq.{compares_Decides}
 use Rattle.text.specs.Line.{fields, first, same, prepend, behind}
 
 -- ---- the first field is a front of the line
@@ -73,26 +74,8 @@ module _ (l : List ℕ) (at : ℕ) (inside : at ≤ length l) where
       fields-next (drop at l) (λ q. e (omega (arith, length-drop at l)))
       ∙ rw (drop-drop (suc (length (first (drop at l)))) at l, n)
 
--- ---- two words
+-- ---- two words: `same` tells whether they are equal
 
-pub same_length : (a b : List ℕ) → (length a ≡ length b → ⊥) → same a b ≡ false
+pub same-Decides : (a b : List ℕ) → Decides (same a b) (a ≡ b)
 unfolding same
-same_length [] [] h = absurd (h refl)
-same_length [] (y ∷ ys) h = refl
-same_length (x ∷ xs) [] h = refl
-same_length (x ∷ xs) (y ∷ ys) h = go (eqb x y) (same_length xs ys (λ e. h (ap suc e)))
-  where
-    go : (b : Bool) → same xs ys ≡ false → cond b (same xs ys) false ≡ false
-    go true e = e
-    go false e = refl
-
-pub same_eq : (a b : List ℕ) → same a b ≡ true → a ≡ b
-unfolding same
-same_eq [] [] e = refl
-same_eq [] (y ∷ ys) e = cc
-same_eq (x ∷ xs) [] e = cc
-same_eq (x ∷ xs) (y ∷ ys) e = go (eqb x y) refl e (same_eq xs ys)
-  where
-    go : (b : Bool) → eqb x y ≡ b → cond b (same xs ys) false ≡ true → (same xs ys ≡ true → xs ≡ ys) → x ∷ xs ≡ y ∷ ys
-    go true q h k = let p : x ≡ y = eqb-true x y q in let t : xs ≡ ys = k h in cc
-    go false q h k = cc
+same-Decides = compares_Decides same (search rules)
