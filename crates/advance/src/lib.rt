@@ -10,7 +10,7 @@ ghost use Rattle.machine.specs.Step.{step_of};
 use state::{Answer, Call, Queue, Stepped, Thread};
 
 // The entries have tested the list, from which no sum of a line can wrap.
-#[tactic(auto, unfolding(machine::specs::Step::step_of, state::specs::List::record_good))]
+#[tactic(auto, using(crate::proofs::Loads::loads), unfolding(machine::specs::Step::step_of, state::specs::List::record_good))]
 pub fn advance(q: Queue, pool: &mut [u64], thread: Thread) -> Stepped
     requires thread_value { record_good q thread ≡ true }
     requires raw_bound { position q.tail.raw ≤ 4294967295 * 64 }
@@ -18,6 +18,7 @@ pub fn advance(q: Queue, pool: &mut [u64], thread: Thread) -> Stepped
     ensures pool_after { pool.new ≡ after pool.old (step_of q pool.old thread).touch }
 {
     let call = thread.call;
+    // a match, not closures: a thread's record keeps its call, and `call_good` and the promise's proofs case on it
     let made = match call {
         Call::Idle => {
             return Stepped {

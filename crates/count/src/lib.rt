@@ -56,6 +56,7 @@ fn e2(q: Queue, head: Index) -> Made
 pub fn length(q: Queue, line: LengthLine) -> Made
     ensures { result ≡ (spec.length q line).made }
 {
+    // a match, not closures: a thread's record keeps its line, and `length_good` and the promise's proofs case on it
     match line {
         LengthLine::L1 => l1(q),
         LengthLine::L2(tail) => l2(q, tail),
@@ -66,6 +67,7 @@ pub fn length(q: Queue, line: LengthLine) -> Made
 pub fn empty(q: Queue, line: EmptyLine) -> Made
     ensures { result ≡ (spec.empty q line).made }
 {
+    // a match, not closures: a thread's record keeps its line, and `empty_good` and the promise's proofs case on it
     match line {
         EmptyLine::E1 => e1(q),
         EmptyLine::E2(head) => e2(q, head),

@@ -18,6 +18,7 @@ pub fn step(q: Queue, pool: &mut [u64], line: PushLine) -> Made
     ensures value { result ≡ (spec.push q pool.old line).made }
     ensures pool_after { pool.new ≡ after pool.old (spec.push q pool.old line).touch }
 {
+    // a match, not closures: a thread's record keeps its line, and `push_good` and the promise's proofs case on it
     match line {
         PushLine::P1(token, held) => loading::p1(q, token, held),
         PushLine::P2(token, t, held) => loading::p2(q, token, t, held),

@@ -15,7 +15,7 @@ use state::{Queue, StealLine, Stepped, Thread, settle};
 
 // One step of a call that stands at `line`. What it asks is of the list, which an entry tests before it
 // makes a step: the line's claim and slot, the room in the ring, and a tail that is not past the last lap.
-#[tactic(auto, unfolding(state::specs::List::steal_good))]
+#[tactic(auto, using(crate::proofs::Loads::loads), unfolding(state::specs::List::steal_good))]
 pub fn step(q: Queue, pool: &mut [u64], thread: Thread, line: StealLine) -> Stepped
     requires line_value { steal_good q thread.ring.count line ≡ true }
     requires count_bound { thread.ring.count ≤ 64 }
@@ -23,7 +23,8 @@ pub fn step(q: Queue, pool: &mut [u64], thread: Thread, line: StealLine) -> Step
     ensures value { result ≡ (spec.steal q pool.old thread line).stepped }
     ensures pool_after { pool.new ≡ after pool.old (spec.steal q pool.old thread line).touch }
 {
-    // one call after the match: a call in every arm costs the proof twice the time
+    // a match, not closures: a thread's record keeps its line, and `steal_good` and the promise's proofs case on it
+    // one call after it: a call in every arm costs the proof twice the time
     let landed = match line {
         StealLine::S1(kind) => s1(q, kind),
         StealLine::S2(kind, head) => s2(q, kind, head),
