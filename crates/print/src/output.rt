@@ -1,7 +1,7 @@
 // Whole lines of the output: fields parted by tabs, and a line feed. A method that writes a line asks for the room of one,
 // LINE_ROOM bytes: its caller writes out what it has before less is left. No line is longer, so none asks how long its own
 // will be.
-ghost use Rattle.std.specs.Prelude.{◌+◌, ◌≤◌, length, [], ◌∷◌, ◌++◌};
+ghost use Rattle.std.specs.Prelude.{◌≡◌, ◌+◌, ◌≤◌, length, [], ◌∷◌, ◌++◌};
 ghost use Rattle.text.specs.Number.{digits};
 ghost use Rattle.text.specs.Print.{word_bytes, line_bytes, line_number_bytes, bad_bytes, refused_bytes, end_bytes, queue_bytes};
 ghost use Rattle.print.specs.Output.{Adds};
@@ -9,12 +9,35 @@ ghost use Rattle.print.specs.Output.{Adds};
 use itoa::Buffer;
 use text::Word;
 
-// A lent buffer, and how many bytes are written at its front. (std's `write!` into a slice answers a Result, and no clause
-// of it says which bytes were written or that there was room.)
+// A lent buffer, and how many bytes are written at its front. (A write by std's Cursor answers a Result, though there is
+// room, and no clause says which bytes `write!` puts into a slice.)
 #[derive(Drop)]
 pub struct Output<'a> {
     pub bytes: &'a mut [u8],
     pub written: usize,
+}
+
+// Here and not as a method of Word: outcome's theorem, one answer for each public function, can't speak of a `&`.
+#[tactic(auto, unfolding(text::specs::Print::word_bytes))]
+fn spelt(word: Word) -> &'static str
+    ensures { result.now ≡ word_bytes word }
+{
+    match word {
+        Word::Pushed => "pushed",
+        Word::Task => "task",
+        Word::Moved => "moved",
+        Word::Empty => "empty",
+        Word::Retry => "retry",
+        Word::Len => "len",
+        Word::Yes => "yes",
+        Word::No => "no",
+        Word::Open => "open",
+        Word::Nothing => "none",
+        Word::Refused => "refused",
+        Word::Bad => "bad",
+        Word::End => "end",
+        Word::Queue => "queue",
+    }
 }
 
 impl Output<'_> {
@@ -44,7 +67,7 @@ impl Output<'_> {
         requires { self.old.written + 7 ≤ length self.old.bytes.now }
         ensures { Adds self.old (word_bytes word) self.new }
     {
-        self.put(word.as_str());
+        self.put(spelt(word));
     }
 
     fn tab(&mut self)
@@ -61,7 +84,7 @@ impl Output<'_> {
         self.put("\n");
     }
 
-    // Line number, thread, word.
+    // Line number, thread, word. (One method with `numbered` would take an Option, and its equation be a match of both.)
     #[tactic(auto, using(crate::proofs::Pieces::pieces), unfolding(text::specs::Print::line_bytes))]
     pub fn plain(&mut self, line: u64, thread: u64, word: Word)
         requires { self.old.written + 100 ≤ length self.old.bytes.now }

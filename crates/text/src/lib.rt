@@ -2,9 +2,6 @@
 // machine. Here are its types.
 #![tactic(auto)]
 
-ghost use Rattle.std.specs.Prelude.{◌≡◌};
-ghost use Rattle.text.specs.Print.{word_bytes};
-
 // No line of the input is longer, before its line feed.
 pub const LINE_CAP: usize = 80;
 
@@ -43,28 +40,4 @@ pub enum Word {
     Bad,
     End,
     Queue,
-}
-
-impl Word {
-    #[tactic(auto, unfolding(crate::specs::Print::word_bytes))]
-    pub fn as_str(self) -> &'static str
-        ensures { result.now ≡ word_bytes self }
-    {
-        match self {
-            Word::Pushed => "pushed",
-            Word::Task => "task",
-            Word::Moved => "moved",
-            Word::Empty => "empty",
-            Word::Retry => "retry",
-            Word::Len => "len",
-            Word::Yes => "yes",
-            Word::No => "no",
-            Word::Open => "open",
-            Word::Nothing => "none",
-            Word::Refused => "refused",
-            Word::Bad => "bad",
-            Word::End => "end",
-            Word::Queue => "queue",
-        }
-    }
 }
