@@ -1,71 +1,118 @@
-// What a line about the shared words and the pool asks of the entries, and what is said of their answers.
-use crate::reads::Case;
-use crate::{board, stands};
-use state::{Queue, Refusal, Thread};
-use std::io::Stdout;
+// What a line makes of the board, the table and the pool, and what is said of it.
+use crate::asks::Case;
+use crate::board;
+use crate::board::Board;
+use injector::Request;
+use ring::{Flavor, Ring};
+use say::Said;
+use state::{Answer, Call, Refusal, Thread};
+use std::fmt;
 
-pub(crate) fn act(out: Stdout, case: Case, words: Case, pool: &mut [u64]) -> Case {
-    if case.letter == b'B' {
-        return case;
-    }
-    if case.letter == b'N' {
-        return set_up(out, case, words, pool);
-    }
-    entry(out, case, words, pool);
-    words
+#[derive(Clone, Copy)]
+pub(crate) enum Reply {
+    Nothing,
+    Ready,
+    Blocks(u64),
+    Unreached,
+    // with the steps that it took
+    Stepped(Answer, u64),
+    Refused(Refusal),
 }
 
-fn entry(out: Stdout, case: Case, words: Case, pool: &mut [u64]) {
-    let letter = case.letter;
-    match letter {
-        b'A' => audits(out, words, pool),
-        b'W' => set_word(pool, case.a, case.b),
-        b'P' | b'S' | b'L' | b'E' | b'I' => stand(out, case, words, pool),
-        _ => {}
-    }
-}
-
-fn set_up(out: Stdout, case: Case, words: Case, pool: &mut [u64]) -> Case {
-    board::fill(pool);
-    let started = injector::setup(case.a, case.b, case.c, pool);
-    let answer = started.answer;
-    say_ready(out, answer);
-    let queue = started.queue;
-    let mut now = board::with_queue(words, queue);
-    now.h = case.a;
-    now.j = 0;
-    now
-}
-
-fn say_ready(out: Stdout, ready: Result<(), Refusal>) {
-    match ready {
-        Ok(()) => say::text(out, b" -> ready"),
-        Err(refusal) => say::refused(out, refusal),
+impl fmt::Display for Reply {
+    fn fmt<W: fmt::Write>(&self, f: &mut fmt::Formatter<W>) -> fmt::Result {
+        match *self {
+            Reply::Nothing => Ok(()),
+            Reply::Ready => write!(f, " -> ready"),
+            Reply::Blocks(n) => write!(f, " -> blocks {n}"),
+            Reply::Unreached => write!(f, " -> tail not reached"),
+            Reply::Stepped(answer, steps) => write!(f, " -> {}, steps {steps}", Said(answer)),
+            Reply::Refused(refusal) => write!(f, " -> {}", Said(Answer::Refused(refusal))),
+        }
     }
 }
 
-fn audits(out: Stdout, words: Case, pool: &[u64]) {
-    match injector::audit(board::queue(words), pool) {
-        Ok(Some(n)) => say::numbered(out, b" -> blocks ", n),
-        Ok(None) => say::text(out, b" -> tail not reached"),
-        Err(refusal) => say::refused(out, refusal),
+pub(crate) fn idle() -> [Thread; 8] {
+    [injector::idle_thread(Flavor::Fifo); 8]
+}
+
+pub(crate) fn act(
+    case: Case,
+    board: &mut Board,
+    table: &mut [Thread; 8],
+    pool: &mut [u64],
+) -> Reply {
+    let pool = board.lent(pool);
+    match case {
+        Case::Nothing => {}
+        Case::New(threads, blocks, laps) => {
+            *table = idle();
+            return set_up(threads, blocks, laps, board, pool);
+        }
+        Case::Board(next) => *board = next,
+        Case::Word(place, word) => set_word(pool, place, word),
+        Case::Audit => return audited(*board, pool),
+        Case::Stand(call) => return stepped(call, *board, pool),
+        Case::Begin(number, request) => begin(number, request, *board, table, pool),
+        Case::Fill(number, tokens) => table[(number % 8) as usize].ring.count = tokens,
+        Case::Row(number) => return row(number, board, table, pool),
+    }
+    Reply::Nothing
+}
+
+// Before a setup no word is 0, so that one which it leaves would be seen. After it all records are idle.
+fn set_up(threads: u64, blocks: u64, laps: u64, board: &mut Board, pool: &mut [u64]) -> Reply {
+    pool.fill(u64::MAX);
+    let started = injector::setup(threads, blocks, laps, pool);
+    *board = Board {
+        queue: started.queue,
+        records: threads,
+        tokens: 0,
+        ..*board
+    };
+    match started.answer {
+        Ok(()) => Reply::Ready,
+        Err(refusal) => Reply::Refused(refusal),
     }
 }
 
 fn set_word(pool: &mut [u64], place: u64, word: u64) {
-    let at = place as usize;
-    if at < pool.len() {
-        pool[at] = word;
+    if let Some(old) = pool.get_mut(place as usize) {
+        *old = word;
     }
 }
 
-fn stand(out: Stdout, case: Case, words: Case, pool: &mut [u64]) {
-    let thread = stands::thread(case, words.j);
-    step(out, board::queue(words), pool, thread);
+fn audited(board: Board, pool: &[u64]) -> Reply {
+    match injector::audit(board.queue, pool) {
+        Ok(Some(n)) => Reply::Blocks(n),
+        Ok(None) => Reply::Unreached,
+        Err(refusal) => Reply::Refused(refusal),
+    }
 }
 
-fn step(out: Stdout, q: Queue, pool: &mut [u64], thread: Thread) {
-    let ran = injector::step(q, pool, thread, 0);
-    let answer = ran.answer;
-    say::stepped(out, answer, ran.steps);
+// A step of a thread of its own.
+fn stepped(call: Call, board: Board, pool: &mut [u64]) -> Reply {
+    let mut ring = Ring::new(Flavor::Fifo);
+    ring.count = board.tokens;
+    let thread = Thread {
+        ring,
+        call,
+        taken: [0; 63],
+    };
+    let ran = injector::step(board.queue, pool, thread, 0);
+    Reply::Stepped(ran.answer, ran.steps)
+}
+
+fn begin(number: u64, request: Request, board: Board, table: &mut [Thread; 8], pool: &[u64]) {
+    let at = (number % 8) as usize;
+    table[at] = injector::begin(board.queue, pool, table[at], number, request).thread;
+}
+
+// A step of the table leaves other shared words.
+fn row(number: u64, board: &mut Board, table: &mut [Thread; 8], pool: &mut [u64]) -> Reply {
+    let records = board.records.min(8) as usize;
+    let lent = board::lend(board.queue, records, *table, pool, number);
+    *table = lent.table;
+    board.queue = lent.step.queue;
+    Reply::Stepped(lent.step.answer, lent.step.steps)
 }

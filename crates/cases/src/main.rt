@@ -16,13 +16,14 @@
 #![tactic(auto)]
 
 mod acts;
+mod asks;
 mod board;
 mod reads;
-mod records;
 mod stands;
 
+use board::Board;
 use std::io;
-use std::io::{Read, Stdout};
+use std::io::{Print, Read, Stdout};
 
 // The words of the largest pool: 32 blocks of 128.
 const POOL_WORDS: usize = 4096;
@@ -31,18 +32,14 @@ const POOL_WORDS: usize = 4096;
 const INPUT_BYTES: u64 = 65536;
 
 fn play(out: Stdout, input: &[u8], pool: &mut [u64]) {
-    let mut words = board::nothing();
-    let mut board = records::start(words);
-    let mut at = 0;
-    while at < input.len() {
-        let case = reads::read_case(out, input, at);
-        at = case.next;
-        let lent = board::front(words.i, pool);
-        words = acts::act(out, case, words, &mut pool[..lent]);
-        let lent = board::front(words.i, pool);
-        board = records::act(case, words, &mut pool[..lent], board);
-        let step = board.step;
-        words = records::after(out, case.letter, words, step);
+    let mut board = Board::of([Some(0); 10]);
+    let mut table = acts::idle();
+    for line in input.split_inclusive(|byte| *byte == b'\n') {
+        let line = line.strip_suffix(b"\n").unwrap_or(line);
+        say::text(out, line);
+        let case = asks::asked(reads::read(line));
+        let reply = acts::act(case, &mut board, &mut table, pool);
+        let _ = println!(out; "{reply}");
     }
 }
 

@@ -1,107 +1,47 @@
 // Reads a line: its first letter, and its numbers.
-ghost use Rattle.std.specs.Prelude.{◌<◌, ◌≤◌, length};
 
-use std::io::Stdout;
-
-// What stands for a number that is not there.
-pub(crate) const NONE: u64 = 18446744073709551615;
-
-// The first letter, the number right behind it, and the ten behind the word: what each is, its reader knows.
 #[derive(Clone, Copy)]
-pub(crate) struct Case {
+pub(crate) struct Line {
     pub(crate) letter: u8,
-    pub(crate) line: u64,
-    pub(crate) a: u64,
-    pub(crate) b: u64,
-    pub(crate) c: u64,
-    pub(crate) d: u64,
-    pub(crate) e: u64,
-    pub(crate) f: u64,
-    pub(crate) g: u64,
-    pub(crate) h: u64,
-    pub(crate) i: u64,
-    pub(crate) j: u64,
-    // where the next line starts
-    pub(crate) next: usize,
+    // the number right behind the letter, and those behind the word
+    pub(crate) own: Option<u64>,
+    pub(crate) numbers: [Option<u64>; 10],
 }
 
-fn line_end(input: &[u8], at: usize) -> usize
-    requires { at ≤ length input.now }
-    ensures { (at ≤ result) × (result ≤ length input.now) }
-{
-    let mut end = at;
-    while end < input.len() {
-        if input[end] == b'\n' {
-            return end;
-        }
-        end += 1;
+// An empty line is a remark.
+pub(crate) fn read(bytes: &[u8]) -> Line {
+    let said = bytes.split(|byte| *byte == b'#').next().unwrap_or(bytes);
+    let mut fields = said.split(|byte| *byte == b' ');
+    let own = fields.next().and_then(number);
+    let mut numbers = [None; 10];
+    for (place, field) in numbers.iter_mut().zip(fields) {
+        *place = number(field);
     }
-    end
-}
-
-// The line that starts at `at`; it is printed, too.
-pub(crate) fn read_case(out: Stdout, input: &[u8], at: usize) -> Case
-    requires { at < length input.now }
-    ensures { at < result.next }
-{
-    let end = line_end(input, at);
-    let line = &input[at..end];
-    say::text(out, line);
-    Case {
-        letter: input[at],
-        line: number(line, 0),
-        a: number(line, 1),
-        b: number(line, 2),
-        c: number(line, 3),
-        d: number(line, 4),
-        e: number(line, 5),
-        f: number(line, 6),
-        g: number(line, 7),
-        h: number(line, 8),
-        i: number(line, 9),
-        j: number(line, 10),
-        next: end + 1,
+    Line {
+        letter: bytes.first().copied().unwrap_or(b'#'),
+        own,
+        numbers,
     }
 }
 
-// The number behind so many blanks.
-fn number(line: &[u8], blanks: u64) -> u64 {
-    let mut number = NONE;
-    let mut passed: u64 = 0;
-    let mut at: usize = 0;
-    while at < line.len() {
-        let byte = line[at];
-        at += 1;
-        if byte == b'#' {
-            return number;
-        }
-        passed = behind(passed, byte);
-        if passed == blanks {
-            number = longer(number, byte);
-        }
-    }
+// The digits of a field, whatever else stands between them. The largest number stands for none.
+fn number(field: &[u8]) -> Option<u64> {
+    field
+        .iter()
+        .filter_map(|byte| char::from(*byte).to_digit(10))
+        .fold(None, |number, digit| Some(longer(number, u64::from(digit))))
+        .filter(|number| *number != u64::MAX)
+}
+
+// With one more digit. What would be past the largest number starts anew with it.
+fn longer(number: Option<u64>, digit: u64) -> u64 {
     number
+        .and_then(|number| number.checked_mul(10))
+        .and_then(|tens| tens.checked_add(digit))
+        .unwrap_or(digit)
 }
 
-// No more than eleven blanks are counted: no number behind them is asked for.
-fn behind(blanks: u64, byte: u8) -> u64 {
-    if byte != b' ' {
-        return blanks;
-    }
-    if 10 < blanks {
-        return blanks;
-    }
-    blanks + 1
-}
-
-// With one more digit, where the byte is one. NONE, and what would be past the largest number, start with it.
-fn longer(number: u64, byte: u8) -> u64 {
-    if byte < b'0' || b'9' < byte {
-        return number;
-    }
-    let digit = (byte - b'0') as u64;
-    if (NONE - digit) / 10 < number {
-        return digit;
-    }
-    number * 10 + digit
+// Where every number has a meaning, the largest is meant by one that is not there.
+pub(crate) fn or_largest(number: Option<u64>) -> u64 {
+    number.unwrap_or(u64::MAX)
 }

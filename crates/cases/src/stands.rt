@@ -4,125 +4,92 @@
 //   S line: limit or task, head index, block, slots claimed, slot or next block, flag
 //   L line: tail index, head index
 //   E line: head index
-use crate::reads::{Case, NONE};
+use crate::reads::{Line, or_largest};
 use index::Index;
-use ring::Flavor;
-use state::{Call, Claim, EmptyLine, Kind, LengthLine, PushLine, StealLine, Thread, Won};
+use state::{Call, Claim, EmptyLine, Kind, LengthLine, PushLine, StealLine, Won};
 
-fn maybe(block: u64) -> Option<u64> {
-    if block == NONE {
-        return None;
-    }
-    Some(block)
-}
-
-fn kind(limit: u64) -> Kind {
-    if limit == NONE {
-        return Kind::Steal;
-    }
-    Kind::Batch(limit)
-}
-
-fn won(task: u64) -> Won {
-    if task == NONE {
-        return Won::Moved;
-    }
-    Won::Task(task)
-}
-
-fn push_line(case: Case) -> PushLine {
-    let line = case.line;
-    let tail = Index { raw: case.b };
-    let held = maybe(case.d);
-    match line {
-        1 => return PushLine::P1(case.a, held),
-        2 => return PushLine::P2(case.a, tail, held),
-        3 => return PushLine::P3(case.a, tail, case.c),
-        4 => return PushLine::P4(case.a, tail, case.c, held),
-        5 => return PushLine::P5(case.a, tail, case.c, case.d),
-        6 => return PushLine::P6(case.a, tail, case.c, case.d),
-        7 => return PushLine::P7(case.a, tail, case.c, case.d),
-        8 => return PushLine::P8(case.a, tail, case.c, held),
-        9 => return PushLine::P9(case.a, tail, case.c, held),
-        _ => return PushLine::P10(case.c, case.d == 1),
+fn index(raw: Option<u64>) -> Index {
+    Index {
+        raw: or_largest(raw),
     }
 }
 
-fn claimed(line: u64, kind: Kind, won: Won, claim: Claim, place: u64, flag: bool) -> StealLine {
-    let head = claim.head;
-    match line {
-        1 => return StealLine::S1(kind),
-        2 => return StealLine::S2(kind, head),
-        3 => return StealLine::S3(kind, head, claim.block),
-        4 => return StealLine::S4(kind, claim, flag),
-        5 => return StealLine::S5(kind, claim),
-        6 => return StealLine::S6(kind, claim, place),
-        7 => return StealLine::S7(kind, claim, place, flag),
-        8 => return StealLine::S8(kind, claim, flag),
-        9 => return StealLine::S9(kind, claim, place),
-        10 => return StealLine::S10(kind, claim, place),
-        11 => return StealLine::S11(won, claim, place),
-        12 => return StealLine::S12(won, claim.block, place),
-        13 => return StealLine::S13(won, claim.block, place),
-        _ => return StealLine::S14(won, claim.block),
+fn push_line(line: Line) -> PushLine {
+    let [token, tail, block, held, ..] = line.numbers;
+    let token = or_largest(token);
+    let tail = index(tail);
+    let block = or_largest(block);
+    let next = or_largest(held);
+    match line.own {
+        Some(1) => PushLine::P1(token, held),
+        Some(2) => PushLine::P2(token, tail, held),
+        Some(3) => PushLine::P3(token, tail, block),
+        Some(4) => PushLine::P4(token, tail, block, held),
+        Some(5) => PushLine::P5(token, tail, block, next),
+        Some(6) => PushLine::P6(token, tail, block, next),
+        Some(7) => PushLine::P7(token, tail, block, next),
+        Some(8) => PushLine::P8(token, tail, block, held),
+        Some(9) => PushLine::P9(token, tail, block, held),
+        _ => PushLine::P10(block, held == Some(1)),
     }
 }
 
-fn steal_line(case: Case) -> StealLine {
-    let head = Index { raw: case.b };
+fn steal_line(line: Line) -> StealLine {
+    let [first, head, block, advance, place, flag, ..] = line.numbers;
+    let kind = first.map_or(Kind::Steal, Kind::Batch);
+    let won = first.map_or(Won::Moved, Won::Task);
+    let head = index(head);
+    let block = or_largest(block);
+    let advance = or_largest(advance);
     let claim = Claim {
         head,
-        block: case.c,
-        advance: case.d,
+        block,
+        advance,
     };
-    claimed(
-        case.line,
-        kind(case.a),
-        won(case.a),
-        claim,
-        case.e,
-        case.f == 1,
-    )
-}
-
-fn length_line(case: Case) -> LengthLine {
-    let line = case.line;
-    let tail = Index { raw: case.a };
-    let head = Index { raw: case.b };
-    match line {
-        1 => LengthLine::L1,
-        2 => LengthLine::L2(tail),
-        _ => LengthLine::L3(tail, head),
+    let place = or_largest(place);
+    let flag = flag == Some(1);
+    match line.own {
+        Some(1) => StealLine::S1(kind),
+        Some(2) => StealLine::S2(kind, head),
+        Some(3) => StealLine::S3(kind, head, block),
+        Some(4) => StealLine::S4(kind, claim, flag),
+        Some(5) => StealLine::S5(kind, claim),
+        Some(6) => StealLine::S6(kind, claim, place),
+        Some(7) => StealLine::S7(kind, claim, place, flag),
+        Some(8) => StealLine::S8(kind, claim, flag),
+        Some(9) => StealLine::S9(kind, claim, place),
+        Some(10) => StealLine::S10(kind, claim, place),
+        Some(11) => StealLine::S11(won, claim, place),
+        Some(12) => StealLine::S12(won, block, place),
+        Some(13) => StealLine::S13(won, block, place),
+        _ => StealLine::S14(won, block),
     }
 }
 
-fn empty_line(case: Case) -> EmptyLine {
-    if case.line == 1 {
-        return EmptyLine::E1;
+fn length_line(line: Line) -> LengthLine {
+    let [tail, head, ..] = line.numbers;
+    match line.own {
+        Some(1) => LengthLine::L1,
+        Some(2) => LengthLine::L2(index(tail)),
+        _ => LengthLine::L3(index(tail), index(head)),
     }
-    let head = Index { raw: case.a };
-    EmptyLine::E2(head)
+}
+
+fn empty_line(line: Line) -> EmptyLine {
+    let [head, ..] = line.numbers;
+    match line.own {
+        Some(1) => EmptyLine::E1,
+        _ => EmptyLine::E2(index(head)),
+    }
 }
 
 // Any other letter is no call.
-fn call(case: Case) -> Call {
-    let letter = case.letter;
-    match letter {
-        b'P' => return Call::Push(push_line(case)),
-        b'S' => return Call::Steal(steal_line(case)),
-        b'L' => return Call::Length(length_line(case)),
-        b'E' => return Call::Empty(empty_line(case)),
-        _ => return Call::Idle,
-    }
-}
-
-pub(crate) fn thread(case: Case, tokens: u64) -> Thread {
-    let call = call(case);
-    let mut ring = ring::Ring::new(Flavor::Fifo);
-    ring.count = tokens;
-    Thread {
-        ring,
-        call,
-        taken: [0u64; 63],
+pub(crate) fn call(line: Line) -> Call {
+    match line.letter {
+        b'P' => push_line(line).into(),
+        b'S' => steal_line(line).into(),
+        b'L' => length_line(line).into(),
+        b'E' => empty_line(line).into(),
+        _ => Call::Idle,
     }
 }

@@ -1,53 +1,29 @@
 // The files of a log.
-ghost use Rattle.std.specs.Prelude.{◌≤◌, IfOk, length};
-
+use std::alloc::Global;
 use std::fs::File;
 use std::io::Read;
 use std::rt::Files;
 use std::{io, str};
 
-// What stands for a file that is not there: more than any buffer has.
-const MISSING: usize = 18446744073709551615;
+// No log, and nothing that is owed for one, is longer.
+const FILE_BYTES: u64 = 65536;
 
-// Reads until the buffer is full or the input ends.
-fn fill(input: &mut impl Read, buffer: &mut [u8]) -> io::Result<usize>
-    ensures { IfOk result (λ n. n ≤ length buffer.new) }
-{
-    let mut done = 0;
-    while done < buffer.len() {
-        let n = input.read(&mut buffer[done..])?;
-        if n == 0 {
-            break;
-        }
-        done += n;
-    }
-    Ok(done)
-}
-
-// Reads the file into the front of the buffer, and answers how many bytes it has.
-pub(crate) fn read(rt: &impl Files, path: &[u8], buffer: &mut [u8]) -> io::Result<usize> {
+// The file's bytes, where there is such a file.
+pub(crate) fn read(rt: &impl Files, alloc: Global, path: &[u8]) -> io::Result<Option<Vec<u8>>> {
     let Ok(name) = str::from_utf8(path) else {
-        return Ok(MISSING);
+        return Ok(None);
     };
-    match File::open(rt, name) {
-        Ok(mut file) => fill(&mut file, buffer),
-        Err(_) => Ok(MISSING),
-    }
-}
-
-fn put(path: &mut [u8], at: usize, byte: u8) {
-    if at < path.len() {
-        path[at] = byte;
-    }
+    let Ok(file) = File::open(rt, name) else {
+        return Ok(None);
+    };
+    let mut bytes = Vec::new(alloc);
+    file.take(FILE_BYTES).read_to_end(&mut bytes)?;
+    Ok(Some(bytes))
 }
 
 // NAME.log becomes NAME.out.
 pub(crate) fn name_output(path: &mut [u8]) {
-    let n = path.len();
-    if n < 3 {
-        return;
+    if let Some(at) = path.len().checked_sub(3) {
+        path[at..].copy_from_slice(b"out");
     }
-    put(path, n - 3, b'o');
-    put(path, n - 2, b'u');
-    put(path, n - 1, b't');
 }

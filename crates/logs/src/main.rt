@@ -4,70 +4,54 @@
 mod cuts;
 mod files;
 
+use std::alloc::Global;
 use std::env::{Env, FillError};
 use std::io;
-use std::io::Stdout;
+use std::io::{Print, Stdout};
 use std::rt::Files;
 
 // No path is longer.
 const PATH_BYTES: usize = 4096;
 
-// No log, and nothing that is owed for one, is longer.
-const FILE_BYTES: usize = 65536;
-
-fn say_result(out: Stdout, same: bool) {
-    if same {
-        say::text(out, b"\tsame\n");
-    } else {
-        say::text(out, b"\tDIFFERS\n");
-    }
-}
-
-// So many bytes of each were read.
-fn compare(out: Stdout, log: &[u8], read: usize, expected: &[u8], owed: usize) {
-    if log.len() < read {
-        say::text(out, b"\tNO LOG\n");
-        return;
-    }
-    if expected.len() < owed {
-        say::text(out, b"\tNO OUTPUT\n");
-        return;
-    }
-    say_result(out, cuts::all_same(&log[0..read], &expected[0..owed]));
+fn verdict(same: bool) -> &'static str {
+    if same { "same" } else { "DIFFERS" }
 }
 
 // The log of that name, and the file of the same name that ends in `out`.
-fn one(rt: &impl Files, out: Stdout, name: &mut [u8]) -> io::Result<()> {
-    say::text(out, name);
-    let mut log = [0u8; FILE_BYTES];
-    let read = files::read(rt, name, &mut log)?;
+fn one(rt: &impl Files, alloc: Global, name: &mut [u8]) -> io::Result<&'static str> {
+    let log = files::read(rt, alloc, name)?;
     files::name_output(name);
-    let mut expected = [0u8; FILE_BYTES];
-    let owed = files::read(rt, name, &mut expected)?;
-    compare(out, &log, read, &expected, owed);
-    Ok(())
+    let expected = files::read(rt, alloc, name)?;
+    Ok(match (log, expected) {
+        (None, _) => "NO LOG",
+        (_, None) => "NO OUTPUT",
+        (Some(log), Some(expected)) => verdict(cuts::all_same(&log, &expected)),
+    })
 }
 
 // Whether there is such an argument. One that is too long for a path names no file.
-fn named(rt: &(impl Env + Files), out: Stdout, i: usize) -> io::Result<bool> {
+fn named(rt: &(impl Env + Files), alloc: Global, out: Stdout, i: usize) -> io::Result<bool> {
     let mut path = [0u8; PATH_BYTES];
     let length = match rt.arg(i, &mut path) {
         Ok(length) => length,
         Err(FillError::TooLong) => 0,
         Err(FillError::NotPresent) => return Ok(false),
     };
-    one(rt, out, &mut path[..length])?;
+    let name = &mut path[..length];
+    say::text(out, name);
+    let said = one(rt, alloc, name)?;
+    let _ = println!(out; "\t{said}");
     Ok(true)
 }
 
 fn main(rt: HostRuntime) -> io::Result<()> {
     let out = rt.stdout();
     for i in 1..usize::MAX {
-        if !named(&rt, out, i)? {
+        if !named(&rt, rt.alloc(), out, i)? {
             break;
         }
     }
-    say::text(out, b"a line of a million bytes");
-    say_result(out, cuts::long_line_same());
+    let said = verdict(cuts::long_line_same());
+    let _ = println!(out; "a line of a million bytes\t{said}");
     Ok(())
 }

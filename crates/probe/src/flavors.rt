@@ -13,28 +13,19 @@ fn named(rt: &impl Env, argument: usize, digit: u8) -> bool {
 }
 
 fn flavor(rt: &impl Env, digit: u8) -> Flavor {
-    if named(rt, 1, digit) {
-        return Flavor::Lifo;
+    if (1..=3).any(|argument| named(rt, argument, digit)) {
+        Flavor::Lifo
+    } else {
+        Flavor::Fifo
     }
-    if named(rt, 2, digit) {
-        return Flavor::Lifo;
-    }
-    if named(rt, 3, digit) {
-        return Flavor::Lifo;
-    }
-    Flavor::Fifo
 }
 
 // Line 1 makes all threads idle, and all rings Fifo: as it is fed, so are they here.
 pub(crate) fn after_first(rt: &impl Env, mut replay: Replay, number: u64) -> Replay {
-    if number != 1 {
-        return replay;
-    }
-    let mut i: usize = 0;
-    while i < 8 {
-        let thread = injector::idle_thread(flavor(rt, 48 + i as u8));
-        replay.threads[i] = thread;
-        i += 1;
+    if number == 1 {
+        for (thread, digit) in replay.threads.iter_mut().zip(b'0'..) {
+            *thread = injector::idle_thread(flavor(rt, digit));
+        }
     }
     replay
 }

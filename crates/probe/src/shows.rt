@@ -1,146 +1,83 @@
 // How the machine stands.
-ghost use Rattle.std.specs.Prelude.{◌≤◌};
-
-use crate::{feeds, stands};
+use crate::stands::At;
 use journal::Replay;
-use ring::{Flavor, Ring};
-use state::Queue;
-use std::io::Stdout;
+use state::Call;
+use std::fmt;
+use std::io::{Print, Stdout};
 
-fn row(output: Stdout, numbers: &[u64], count: u64) {
-    let mut i: usize = 0;
-    while i < numbers.len() && (i as u64) < count {
-        say::numbered(output, b"\t", numbers[i]);
-        i += 1;
+// The tokens, from front to back.
+#[derive(Clone, Copy)]
+struct Row<'a>(&'a [u64]);
+
+impl fmt::Display for Row<'_> {
+    fn fmt<W: fmt::Write>(&self, f: &mut fmt::Formatter<W>) -> fmt::Result {
+        for token in self.0 {
+            write!(f, "\t{token}")?;
+        }
+        Ok(())
     }
 }
 
-fn one_if_taken(pool: &[u64], block: u64) -> u64
-    ensures { result ≤ 1 }
-{
-    if memory::is_free(pool, block) {
-        return 0;
-    }
-    1
+// A block's next, the states of its slots, and their tokens.
+#[derive(Clone, Copy)]
+struct Block<'a> {
+    pool: &'a [u64],
+    block: u64,
 }
 
-fn blocks_taken(pool: &[u64], blocks: u64) -> u64 {
-    let mut taken: u64 = 0;
-    let mut block: u64 = 0;
-    while block < blocks {
-        taken += one_if_taken(pool, block);
-        block += 1;
+impl fmt::Display for Block<'_> {
+    fn fmt<W: fmt::Write>(&self, f: &mut fmt::Formatter<W>) -> fmt::Result {
+        match memory::next(self.pool, self.block) {
+            Some(next) => write!(f, "{next}\t")?,
+            None => write!(f, "-\t")?,
+        }
+        for slot in 0..63 {
+            write!(f, "{}", memory::state(self.pool, self.block, slot))?;
+        }
+        for slot in 0..63 {
+            write!(f, "\t{}", memory::token(self.pool, self.block, slot))?;
+        }
+        Ok(())
     }
-    taken
-}
-
-// The steps made, the shared words, the blocks taken and the tokens in the ring.
-fn show_words(output: Stdout, steps: u64, queue: Queue, pool: &[u64], count: u64) {
-    let head = queue.head;
-    let tail = queue.tail;
-    let taken = blocks_taken(pool, queue.blocks);
-    let words = [
-        steps,
-        head.raw,
-        queue.head_block,
-        tail.raw,
-        queue.tail_block,
-        taken,
-    ];
-    row(output, &words, 6);
-    say::numbered_line(output, b"\t", count);
 }
 
 // Where line `number` was a command, what the thread and the shared words came to. Only a command changes the number of the
-// next line.
-pub(crate) fn command(output: Stdout, replay: Replay, pool: &[u64], number: u64, thread: u64) {
-    if number == 1 {
+// next line. A number that names no thread stands for one that is idle.
+pub(crate) fn command(output: Stdout, replay: &Replay, pool: &[u64], number: u64, thread: u64) {
+    if number == 1 || replay.number == number {
         return;
     }
-    if replay.number == number {
-        return;
-    }
-    let stand = stands::of_thread(replay, thread);
+    let (call, count) = replay
+        .threads
+        .get(thread as usize)
+        .map_or((Call::Idle, 0), |thread| (thread.call, thread.ring.count));
     let queue = replay.queue;
-    say::numbered(output, b"#\t", number);
-    say::numbered(output, b"\t", thread);
-    stands::show_line(output, stand.line);
-    show_words(output, replay.steps, queue, pool, stand.count);
-}
-
-fn show_next(output: Stdout, next: Option<u64>) {
-    match next {
-        None => say::text(output, b"\t-"),
-        Some(block) => say::numbered(output, b"\t", block),
-    }
-}
-
-fn states(output: Stdout, pool: &[u64], block: u64) {
-    let mut slot: u64 = 0;
-    while slot < 63 {
-        say::number(output, memory::state(pool, block, slot));
-        slot += 1;
-    }
-}
-
-fn tokens(output: Stdout, pool: &[u64], block: u64) {
-    let mut slot: u64 = 0;
-    while slot < 63 {
-        say::numbered(output, b"\t", memory::token(pool, block, slot));
-        slot += 1;
-    }
-}
-
-fn show_block(output: Stdout, pool: &[u64], block: u64) {
-    if memory::is_free(pool, block) {
-        return;
-    }
-    say::numbered(output, b"#block\t", block);
-    show_next(output, memory::next(pool, block));
-    say::text(output, b"\t");
-    states(output, pool, block);
-    tokens(output, pool, block);
-    say::text(output, b"\n");
-}
-
-fn show_blocks(output: Stdout, pool: &[u64], blocks: u64) {
-    let mut block: u64 = 0;
-    while block < blocks {
-        show_block(output, pool, block);
-        block += 1;
-    }
-}
-
-// A number that names no thread stands for one with an empty ring.
-fn ring_of(replay: Replay, number: u64) -> Ring {
-    if 8 <= number {
-        return Ring::new(Flavor::Fifo);
-    }
-    let thread = stands::record(replay, number as usize);
-    thread.ring
-}
-
-// The tokens from front to back.
-fn show_ring(output: Stdout, number: u64, ring: Ring) {
-    let tokens = ring.tokens;
-    say::numbered(output, b"#ring\t", number);
-    row(output, &tokens, ring.count);
-    say::text(output, b"\n");
-}
-
-fn show_rings(output: Stdout, replay: Replay, count: u64) {
-    let mut number: u64 = 0;
-    while number < count {
-        show_ring(output, number, ring_of(replay, number));
-        number += 1;
-    }
+    let taken = (0..queue.blocks)
+        .filter(|block| !memory::is_free(pool, *block))
+        .count();
+    let _ = println!(output;
+        "#\t{number}\t{thread}\t{}\t{}\t{}\t{}\t{}\t{}\t{taken}\t{count}",
+        At(call),
+        replay.steps,
+        queue.head.raw,
+        queue.head_block,
+        queue.tail.raw,
+        queue.tail_block
+    );
 }
 
 // The last lines of the replay, the blocks that are taken, and the rings. A queue that was not set up has neither.
 pub(crate) fn at_end(output: Stdout, replay: Replay, pool: &[u64], out: &mut [u8]) {
-    let queue = replay.queue;
     let written = journal::finish(replay, out);
-    feeds::write(output, out, written);
-    show_blocks(output, pool, queue.blocks);
-    show_rings(output, replay, queue.threads);
+    say::text(output, &out[..written]);
+    let queue = replay.queue;
+    for block in 0..queue.blocks {
+        if !memory::is_free(pool, block) {
+            let _ = println!(output; "#block\t{block}\t{}", Block { pool, block });
+        }
+    }
+    for (number, thread) in replay.threads.iter().enumerate().take(queue.threads as usize) {
+        let ring = thread.ring;
+        let _ = println!(output; "#ring\t{number}{}", Row(&ring.tokens[..ring.count.min(64) as usize]));
+    }
 }

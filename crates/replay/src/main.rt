@@ -1,8 +1,9 @@
 // Replays the log on standard input, and says on standard output what happened.
 #![tactic(auto)]
 
-ghost use Rattle.std.specs.Prelude.{◌<◌};
+ghost use Rattle.std.specs.Prelude.{◌≤◌, length};
 
+use journal::Replay;
 use std::io;
 use std::io::{Read, Write};
 
@@ -12,52 +13,49 @@ const POOL_WORDS: usize = 4096;
 // The most that is read at once, and the most that is written at once.
 const PIECE_BYTES: usize = 65536;
 
-fn write(output: &mut impl Write, out: &[u8], written: usize) -> io::Result<()> {
-    if written <= out.len() {
-        output.write_all(&out[..written])?;
-    }
-    Ok(())
-}
-
-// Where to feed from next.
-fn behind(at: usize, read: usize, end: usize) -> usize
-    requires { at < end }
+// One feed leaves bytes unread where the buffer ran out of room: they are fed again, into the buffer written out.
+fn feed_all(
+    mut replay: Replay,
+    output: &mut impl Write,
+    pool: &mut [u64],
+    piece: &[u8],
+    out: &mut [u8],
+) -> io::Result<Replay>
+    // with so much lent a feed reads a byte or more
+    requires pool_room { 4096 ≤ length pool.old }
+    requires out_room { 256 ≤ length out.old }
 {
-    if end - at < read {
-        return end;
+    let mut rest = piece;
+    while !rest.is_empty() {
+        let fed = journal::feed(replay, pool, rest, out);
+        output.write_all(&out[..fed.written])?;
+        rest = &rest[fed.read..];
+        replay = fed.replay;
     }
-    at + read
+    Ok(replay)
 }
 
 // A proved loop has to end, and nothing says that the input does: it takes more turns than any run does.
-// The piece is read anew where all of it was fed. One feed leaves bytes unread where the buffer ran out of room: they are
-// fed again, into the buffer written out.
 fn replay_all(
     input: &mut impl Read,
     output: &mut impl Write,
     pool: &mut [u64],
     piece: &mut [u8],
     out: &mut [u8],
-) -> io::Result<()> {
+) -> io::Result<()>
+    requires pool_room { 4096 ≤ length pool.old }
+    requires out_room { 256 ≤ length out.old }
+{
     let mut replay = journal::new();
-    let mut at = 0;
-    let mut end = 0;
     for _ in 0..u64::MAX {
-        if end <= at {
-            at = 0;
-            end = input.read(piece)?;
-            if end == 0 {
-                let written = journal::finish(replay, out);
-                return write(output, out, written);
-            }
-            continue;
+        let n = input.read(piece)?;
+        if n == 0 {
+            break;
         }
-        let fed = journal::feed(replay, pool, &piece[at..end], out);
-        write(output, out, fed.written)?;
-        at = behind(at, fed.read, end);
-        replay = fed.replay;
+        replay = feed_all(replay, output, pool, &piece[..n], out)?;
     }
-    Ok(())
+    let written = journal::finish(replay, out);
+    output.write_all(&out[..written])
 }
 
 fn main(rt: HostRuntime) -> io::Result<()> {

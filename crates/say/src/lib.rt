@@ -1,54 +1,32 @@
-// What the test programs print with: labels, numbers and answers, to standard output. A write that fails goes unsaid here: what
+// What the test programs print with: bytes that need not be text, and answers in words. A write that fails goes unsaid here: what
 // is missing shows where the output is compared.
 #![tactic(auto)]
 
-use state::{Answer, Refusal};
+use state::Answer;
+use std::fmt;
 use std::io::{Print, Stdout};
 
 pub fn text(out: Stdout, bytes: &[u8]) {
     let _ = out.write_all(bytes);
 }
 
-pub fn line(out: Stdout, bytes: &[u8]) {
-    text(out, bytes);
-    text(out, b"\n");
-}
+// An answer in words.
+#[derive(Clone, Copy)]
+pub struct Said(pub Answer);
 
-pub fn number(out: Stdout, n: u64) {
-    let _ = out.print(n);
-}
-
-pub fn numbered(out: Stdout, word: &[u8], n: u64) {
-    text(out, word);
-    number(out, n);
-}
-
-pub fn numbered_line(out: Stdout, word: &[u8], n: u64) {
-    numbered(out, word, n);
-    text(out, b"\n");
-}
-
-pub fn refused(out: Stdout, refusal: Refusal) {
-    numbered(out, b" -> refused ", u64::from(refusal));
-}
-
-pub fn answer(out: Stdout, answer: Answer) {
-    match answer {
-        Answer::Open => text(out, b" -> open"),
-        Answer::Pushed => text(out, b" -> pushed"),
-        Answer::Task(token) => numbered(out, b" -> task ", token),
-        Answer::Moved => text(out, b" -> moved"),
-        Answer::Empty => text(out, b" -> empty"),
-        Answer::Retry => text(out, b" -> retry"),
-        Answer::Len(n) => numbered(out, b" -> len ", n),
-        Answer::Yes => text(out, b" -> yes"),
-        Answer::No => text(out, b" -> no"),
-        Answer::Refused(refusal) => refused(out, refusal),
+impl fmt::Display for Said {
+    fn fmt<W: fmt::Write>(&self, f: &mut fmt::Formatter<W>) -> fmt::Result {
+        match self.0 {
+            Answer::Open => write!(f, "open"),
+            Answer::Pushed => write!(f, "pushed"),
+            Answer::Task(token) => write!(f, "task {token}"),
+            Answer::Moved => write!(f, "moved"),
+            Answer::Empty => write!(f, "empty"),
+            Answer::Retry => write!(f, "retry"),
+            Answer::Len(n) => write!(f, "len {n}"),
+            Answer::Yes => write!(f, "yes"),
+            Answer::No => write!(f, "no"),
+            Answer::Refused(refusal) => write!(f, "refused {}", u64::from(refusal)),
+        }
     }
-}
-
-// What a step answered, and the steps that it took.
-pub fn stepped(out: Stdout, word: Answer, steps: u64) {
-    answer(out, word);
-    numbered(out, b", steps ", steps);
 }
