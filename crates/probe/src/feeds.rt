@@ -7,7 +7,7 @@ use std::io::{Read, Stdout};
 
 // The thread of the line that is held. Nothing is shown after a malformed one.
 fn thread_held(replay: &Replay) -> u64 {
-    lines::later_line(&replay.line, replay.held).map_or(0, places::thread_number)
+    lines::later_line(replay).map_or(0, places::thread_number)
 }
 
 // The bytes before a line feed, or the line feed. The buffer has room for what one line makes, so that every byte is read.
