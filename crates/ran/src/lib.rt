@@ -10,22 +10,23 @@ use state::{Answer, Queue, Refusal, Stepped, Thread};
 pub fn refused(q: Queue, thread: Thread, refusal: Refusal) -> Ran
     ensures { result ≡ record { queue = q; thread = thread; answer = Refused refusal; steps = 0 } }
 {
-    let answer = Answer::Refused(refusal);
     Ran {
         queue: q,
         thread,
-        answer,
+        answer: Answer::Refused(refusal),
         steps: 0,
     }
 }
 
-// A function of its own, so that no longer one has these values among its locals, which is what its proof's time goes with.
+// A step made: one line. It is no `From`, since the count stands in no `Stepped`, and `Ran::from` would not tell of it.
 pub fn counted(stepped: Stepped) -> Ran
     ensures { result ≡ record { queue = stepped.queue; thread = stepped.thread; answer = stepped.answer; steps = 1 } }
 {
-    let queue = stepped.queue;
-    let thread = stepped.thread;
-    let answer = stepped.answer;
+    let Stepped {
+        queue,
+        thread,
+        answer,
+    } = stepped;
     Ran {
         queue,
         thread,

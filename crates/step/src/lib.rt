@@ -15,10 +15,8 @@ pub fn step(q: Queue, pool: &mut [u64], thread: Thread, number: u64) -> Ran
     ensures value { result ≡ (step_entry q pool.old thread number).ran }
     ensures pool_after { pool.new ≡ (step_entry q pool.old thread number).pool }
 {
-    let tested = test_open(q, pool, thread, number);
-    if let Err(refusal) = tested {
+    if let Err(refusal) = test_open(q, pool, thread, number) {
         return refused(q, thread, refusal);
     }
-    let stepped = advance(q, pool, thread);
-    counted(stepped)
+    counted(advance(q, pool, thread))
 }

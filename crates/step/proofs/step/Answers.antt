@@ -10,8 +10,8 @@ returns-in-Err c =
     (record { value = c.refused.ensures; pool_after = refl })
 
 -- what the step asks is of the list, which the tests that passed have looked through
-pub advance-stepped-requires : goal.advance-stepped-requires
-advance-stepped-requires c =
+pub advance-requires : goal.advance-requires
+advance-requires c =
     let open_call = is_open _ _ _ _ (sym c.in_default.ensures) in
     let p = passed _ _ _ _ open_call.passes in
     record {
@@ -22,6 +22,6 @@ advance-stepped-requires c =
 pub returns : goal.returns
 returns c =
     let open_call = is_open _ _ _ _ (sym c.in_default.ensures) in
-    let made = c.advance-stepped.ensures in
+    let made = c.advance.ensures in
     rw (step-made _ _ _ _ open_call.passes open_call.begun)
     (record { value = rw (c.counted.ensures, made.value); pool_after = made.pool_after })
