@@ -7,7 +7,8 @@ mod held;
 mod says;
 
 pub use held::{first_line, hold, later_line};
-pub use says::{saturating, say, say_bad, say_end, say_refused};
+pub use print::Output;
+pub use says::{say, say_bad, say_end, say_refused};
 
 // As many of the lent words as the queue uses.
 pub fn words(blocks: u64, len: usize) -> usize

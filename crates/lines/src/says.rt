@@ -1,19 +1,12 @@
-// What goes into the output, and counts that stop at the largest number. The room that is asked for is there: the library
-// reads a byte, or ends, only where 256 bytes are free.
-ghost use Rattle.std.specs.Prelude.{◌≡◌, ◌+◌, ◌≤◌, min, ◌++◌, length};
+// What goes into the output. The room that is asked for is there: the library reads a byte, or ends, only where 256 bytes
+// are free.
+ghost use Rattle.std.specs.Prelude.{◌+◌, ◌≤◌, ◌++◌, length};
 ghost use Rattle.text.specs.Print.{bad_bytes, end_bytes, refused_bytes};
 ghost use Rattle.print.specs.Output.{Adds};
 ghost use Rattle.replayed.specs.Command.{said_bytes};
-ghost use Rattle.replayed.specs.Replay.{most};
 
 use print::Output;
 use replayed::Said;
-
-pub fn saturating(a: u64, b: u64) -> u64
-    ensures { result ≡ min (a + b) most }
-{
-    a.saturating_add(b)
-}
 
 // The line of output for a command, if there is one.
 #[tactic(auto, using(crate::proofs::Room::lengths))]

@@ -1,6 +1,6 @@
 // The commands of one thread, over the shared words and its record by value, and what is said of each.
 ghost use Rattle.std.specs.Prelude.{◌≡◌};
-ghost use Rattle.replayed.specs.Command.{refused_said, answer_said, began_said, popped_said, begins, pops, steps_one, runs, request_of, order_of};
+ghost use Rattle.replayed.specs.Command.{refused_said, answer_said, began_said, popped_said, request_of, order_of};
 
 use machine::{Ran, Request};
 use places::thread_number;
@@ -32,6 +32,7 @@ fn answer_said(still: Said, answer: Answer) -> Said
     }
 }
 
+// A begin that opens its call says nothing.
 fn began_said(began: Result<(), Refusal>) -> Said
     ensures { result ≡ began_said began }
 {
@@ -51,70 +52,19 @@ fn popped_said(popped: Result<Option<u64>, Refusal>) -> Said
     }
 }
 
-fn begin_one(q: Queue, pool: &[u64], thread: Thread, number: u64, what: Request) -> Done
-    ensures { result ≡ (begins q pool.now thread number what).done }
-{
-    let begun = begin::begin(q, pool, thread, number, what);
-    let after = begun.thread;
-    let answer = begun.answer;
-    let said = began_said(answer);
-    Done {
-        queue: q,
-        thread: after,
-        said,
-        steps: 0,
-    }
-}
-
-fn pop_one(q: Queue, pool: &[u64], thread: Thread, number: u64) -> Done
-    ensures { result ≡ (pops q pool.now thread number).done }
-{
-    let popped = pop::pop(q, pool, thread, number);
-    let after = popped.thread;
-    let answer = popped.answer;
-    let said = popped_said(answer);
-    Done {
-        queue: q,
-        thread: after,
-        said,
-        steps: 0,
-    }
-}
-
 // What a step or a run came to; `still` is what is said where the call stays open.
 fn ran_done(ran: Ran, still: Said) -> Done
     ensures { result ≡ record { queue = ran.queue; thread = ran.thread; said = answer_said still ran.answer; steps = ran.steps } }
 {
-    let queue = ran.queue;
-    let thread = ran.thread;
-    let answer = ran.answer;
-    let said = answer_said(still, answer);
     Done {
-        queue,
-        thread,
-        said,
+        queue: ran.queue,
+        thread: ran.thread,
+        said: answer_said(still, ran.answer),
         steps: ran.steps,
     }
 }
 
-// A step that leaves its call open says nothing.
-fn step_one(q: Queue, pool: &mut [u64], thread: Thread, number: u64) -> Done
-    ensures value { result ≡ (steps_one q pool.old thread number).done }
-    ensures pool_after { pool.new ≡ (steps_one q pool.old thread number).pool }
-{
-    ran_done(step::step(q, pool, thread, number), Said::Silent)
-}
-
-// A run that leaves its call open has used its budget up, and says so.
-fn run_one(q: Queue, pool: &mut [u64], thread: Thread, number: u64, budget: u64) -> Done
-    ensures value { result ≡ (runs q pool.old thread number budget).done }
-    ensures pool_after { pool.new ≡ (runs q pool.old thread number budget).pool }
-{
-    let ran = run::run(q, pool, thread, number, budget);
-    ran_done(ran, Said::Plain(Word::Open))
-}
-
-// What a command that begins a call asks for.
+// What a command that begins a call asks for. (No `From`: the other commands ask for nothing.)
 fn request_of(command: Command) -> Request
     ensures { result ≡ request_of command }
 {
@@ -128,23 +78,42 @@ fn request_of(command: Command) -> Request
     }
 }
 
-// What a command of a thread does. Nobody asks it of a queue line.
+// What a command of a thread does. Nobody asks it of a queue line. A begin and a ring pop make no step and leave the shared
+// words as they are; a step that leaves its call open says nothing; a run that does has used its budget up, and says so.
 pub(crate) fn obey(q: Queue, pool: &mut [u64], thread: Thread, command: Command) -> Done
     ensures value { result ≡ (order_of q pool.old thread command).done }
     ensures pool_after { pool.new ≡ (order_of q pool.old thread command).pool }
 {
+    let idle = Done {
+        queue: q,
+        thread,
+        said: Said::Silent,
+        steps: 0,
+    };
     match command {
-        Command::Queue(_, _, _) => {
-            return Done {
-                queue: q,
-                thread,
-                said: Said::Silent,
-                steps: 0,
-            };
+        Command::Queue(..) => idle,
+        Command::Pop(n) => {
+            let popped = pop::pop(q, pool, thread, n);
+            Done {
+                thread: popped.thread,
+                said: popped_said(popped.answer),
+                ..idle
+            }
         }
-        Command::Pop(n) => return pop_one(q, pool, thread, n),
-        Command::Step(n) => return step_one(q, pool, thread, n),
-        Command::Run(n, budget) => return run_one(q, pool, thread, n, budget),
-        _ => return begin_one(q, pool, thread, thread_number(command), request_of(command)),
+        Command::Step(n) => ran_done(step::step(q, pool, thread, n), Said::Silent),
+        Command::Run(n, budget) => {
+            ran_done(
+                run::run(q, pool, thread, n, budget),
+                Said::Plain(Word::Open),
+            )
+        }
+        _ => {
+            let begun = begin::begin(q, pool, thread, thread_number(command), request_of(command));
+            Done {
+                thread: begun.thread,
+                said: began_said(begun.answer),
+                ..idle
+            }
+        }
     }
 }
