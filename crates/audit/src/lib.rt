@@ -1,25 +1,27 @@
 // How long the chain of blocks is: the links are followed from the head's block to the tail's.
 #![tactic(auto)]
 
-ghost use Rattle.std.specs.Prelude.{◌≡◌, ◌+◌, ◌<◌, ◌^◌, Ok};
+ghost use Rattle.std.specs.Prelude.{◌≡◌, ◌+◌, ◌<◌, ◌^◌};
 ghost use Rattle.machine.specs.Audit.{chase, audit_entry};
 
 use state::{Queue, Refusal};
 
-// How many blocks the chain from `head` to `tail` has, where at most `left` links are followed. What is asked is that the
-// count fits: it is at most the pool's blocks.
-fn chase(pool: &[u64], head: u64, tail: u64, left: u64) -> Option<u64>
-    requires { 1 + left < 2 ^ 64 }
-    ensures { Ok result ≡ chase left pool.now head tail 1 }
+// `met` blocks were met, `at` the last of them; the links left fall with each call. What is asked is that the
+// count fits: both together are the pool's blocks. (A call and no loop: document 01 names this form for this place.)
+fn chase(pool: &[u64], at: u64, tail: u64, met: u64, left: u64) -> Result<Option<u64>, Refusal>
+    requires { met + left < 2 ^ 64 }
+    ensures { result ≡ chase left pool.now at tail met }
 {
-    let mut at = head;
-    for met in 1..=left + 1 {
-        if at == tail {
-            return Some(met);
-        }
-        at = memory::next(pool, at)?;
+    if at == tail {
+        return Ok(Some(met));
     }
-    None
+    if left == 0 {
+        return Ok(None);
+    }
+    match memory::next(pool, at) {
+        None => Ok(None),
+        Some(block) => chase(pool, block, tail, met + 1, left - 1),
+    }
 }
 
 // It changes nothing.
@@ -33,5 +35,5 @@ pub fn audit(q: Queue, pool: &[u64]) -> Result<Option<u64>, Refusal>
     if !list::shared_good(q) || !list::nexts_good(pool, q.blocks) {
         return Err(Refusal::BadState);
     }
-    Ok(chase(pool, q.head_block, q.tail_block, q.blocks - 1))
+    chase(pool, q.head_block, q.tail_block, 1, q.blocks - 1)
 }
