@@ -14,19 +14,19 @@ pub later_line : One lines.specs.contracts.later_line.ended lines.proofs.later_l
 later_line _ _ _ _ _ _ p q = (both p q, refl)
 
 pub hold : One lines.specs.contracts.hold.ended lines.proofs.hold.Reads.Learnt
-hold _ _ _ _ _ _ p q = (both p.0 q.0, first (both p.1 q.1))
+hold _ _ _ _ _ _ p q = (refl, first (both p q))
 
 pub saturating : One lines.specs.contracts.saturating.ended lines.proofs.saturating.Reads.Learnt
 saturating _ _ _ _ _ _ p q = (both p q, refl)
 
 pub say : One lines.specs.contracts.say.ended lines.proofs.say.Reads.Learnt
-say _ _ _ _ _ _ p q = (both p.0.place q.0.place, first (both p.0.buffer q.0.buffer))
+say _ _ _ _ _ _ p q = (refl, first (both p.0.value q.0.value))
 
 pub say_bad : One lines.specs.contracts.say_bad.ended lines.proofs.say_bad.Reads.Learnt
-say_bad _ _ _ _ _ _ p q = (both p.0.place q.0.place, first (both p.0.buffer q.0.buffer))
+say_bad _ _ _ _ _ _ p q = (refl, first (both p.0.value q.0.value))
 
 pub say_refused : One lines.specs.contracts.say_refused.ended lines.proofs.say_refused.Reads.Learnt
-say_refused _ _ _ _ _ _ p q = (both p.0.place q.0.place, first (both p.0.buffer q.0.buffer))
+say_refused _ _ _ _ _ _ p q = (refl, first (both p.0.value q.0.value))
 
 pub say_end : One lines.specs.contracts.say_end.ended lines.proofs.say_end.Reads.Learnt
-say_end _ _ _ _ _ _ p q = (both p.0.place q.0.place, first (both p.0.buffer q.0.buffer))
+say_end _ _ _ _ _ _ p q = (refl, first (both p.0.value q.0.value))

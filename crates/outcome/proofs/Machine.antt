@@ -32,3 +32,9 @@ steals_past _ _ _ _ _ _ p q = (both p q, refl)
 
 pub steals_walk_below : One machine.specs.contracts.steals.walk_below.ended machine.proofs.steals.walk_below.Reads.Learnt
 steals_walk_below _ _ _ _ _ _ p q = (both p q, refl)
+
+pub call_from_request : One machine.specs.contracts.CallFromRequest.from.ended machine.proofs.CallFromRequest.from.Reads.Learnt
+call_from_request _ _ _ _ _ _ p q = (both p q, refl)
+
+pub kind_from_request : One machine.specs.contracts.KindFromRequest.from.ended machine.proofs.KindFromRequest.from.Reads.Learnt
+kind_from_request _ _ _ _ _ _ p q = (both p q, refl)

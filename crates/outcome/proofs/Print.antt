@@ -1,28 +1,29 @@
 -- Each public function of `print` has one outcome at most.
+use mathlib.Core.Path.{refl}
 use Rattle.outcome.specs.One.{One}
 use Rattle.outcome.proofs.Equations.{both, first}
 use Rattle.print as print
 
-pub put_line : One print.specs.contracts.put_line.ended print.proofs.put_line.Reads.Learnt
-put_line _ _ _ _ _ _ p q = (both p.place q.place, first (both p.buffer q.buffer))
+pub number : One print.specs.contracts.output.Output.number.ended print.proofs.output.Output.number.Reads.Learnt
+number _ _ _ _ _ _ p q = (refl, first (both p.value q.value))
 
-pub put_line_number : One print.specs.contracts.put_line_number.ended print.proofs.put_line_number.Reads.Learnt
-put_line_number _ _ _ _ _ _ p q = (both p.place q.place, first (both p.buffer q.buffer))
+pub word : One print.specs.contracts.output.Output.word.ended print.proofs.output.Output.word.Reads.Learnt
+word _ _ _ _ _ _ p q = (refl, first (both p.value q.value))
 
-pub put_bad : One print.specs.contracts.put_bad.ended print.proofs.put_bad.Reads.Learnt
-put_bad _ _ _ _ _ _ p q = (both p.place q.place, first (both p.buffer q.buffer))
+pub plain : One print.specs.contracts.output.Output.plain.ended print.proofs.output.Output.plain.Reads.Learnt
+plain _ _ _ _ _ _ p q = (refl, first (both p.value q.value))
 
-pub put_refused : One print.specs.contracts.put_refused.ended print.proofs.put_refused.Reads.Learnt
-put_refused _ _ _ _ _ _ p q = (both p.place q.place, first (both p.buffer q.buffer))
+pub numbered : One print.specs.contracts.output.Output.numbered.ended print.proofs.output.Output.numbered.Reads.Learnt
+numbered _ _ _ _ _ _ p q = (refl, first (both p.value q.value))
 
-pub put_end : One print.specs.contracts.put_end.ended print.proofs.put_end.Reads.Learnt
-put_end _ _ _ _ _ _ p q = (both p.place q.place, first (both p.buffer q.buffer))
+pub bad : One print.specs.contracts.output.Output.bad.ended print.proofs.output.Output.bad.Reads.Learnt
+bad _ _ _ _ _ _ p q = (refl, first (both p.value q.value))
 
-pub put_queue : One print.specs.contracts.put_queue.ended print.proofs.put_queue.Reads.Learnt
-put_queue _ _ _ _ _ _ p q = (both p.place q.place, first (both p.buffer q.buffer))
+pub refused : One print.specs.contracts.output.Output.refused.ended print.proofs.output.Output.refused.Reads.Learnt
+refused _ _ _ _ _ _ p q = (refl, first (both p.value q.value))
 
-pub put_number : One print.specs.contracts.put_number.ended print.proofs.put_number.Reads.Learnt
-put_number _ _ _ _ _ _ p q = (both p.place q.place, first (both p.buffer q.buffer))
+pub end : One print.specs.contracts.output.Output.end.ended print.proofs.output.Output.end.Reads.Learnt
+end _ _ _ _ _ _ p q = (refl, first (both p.value q.value))
 
-pub put_word : One print.specs.contracts.put_word.ended print.proofs.put_word.Reads.Learnt
-put_word _ _ _ _ _ _ p q = (both p.place q.place, first (both p.buffer q.buffer))
+pub queue : One print.specs.contracts.output.Output.queue.ended print.proofs.output.Output.queue.Reads.Learnt
+queue _ _ _ _ _ _ p q = (refl, first (both p.value q.value))
