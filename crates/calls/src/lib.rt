@@ -1,7 +1,7 @@
 // The list's items that a record's call carries: its block numbers, the indices it loaded, its claim and its slot.
 #![tactic(auto)]
 
-ghost use Rattle.std.specs.Prelude.{◌≡◌, ◌&&◌, ◌+◌, min, leb, ltb};
+ghost use Rattle.std.specs.Prelude.{◌≡◌, ◌&&◌, ◌+◌, min, leb};
 ghost use Rattle.state.specs.List.{block_good, held_good, loaded_good, slot_good, holds_at_last, push_good, limit_good, room_good, within_limit, claim_good, in_claim, open_good, claim_open, steal_good, length_good, empty_good};
 
 use index::Index;

@@ -2,8 +2,8 @@
 // function answers true where its part of the list is not broken, and no test asks anything of what it is handed.
 #![tactic(auto)]
 
-ghost use Rattle.std.specs.Prelude.{◌≡◌, ◌&&◌, leb};
-ghost use Rattle.state.specs.List.{counts_good, setup_good, next_good, nexts_good, shared_good, call_good, record_good, state_good};
+ghost use Rattle.std.specs.Prelude.{◌≡◌};
+ghost use Rattle.state.specs.List.{counts_good, setup_good, nexts_good, shared_good, call_good, record_good, state_good};
 
 pub use calls::{limit_good, room_good};
 use state::{Call, Queue, Thread};

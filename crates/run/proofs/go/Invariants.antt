@@ -1,11 +1,7 @@
--- What is left of the budget runs from where the thread stands now, and it is the measure.
-use Rattle.std.proofs.Common.{◌-◌}
+-- What is left of the budget runs from where the thread stands now.
 use Rattle.machine.specs.Step.{run_from}
 use Rattle.run.proofs.Going.{Going}
 use Rattle.run.proofs.go.Given as goal
 
 abbrev pub invariant-loop-used : goal.invariant-loop-used
 invariant-loop-used l = Going (run_from l.budget l.fn.q l.fn.pool l.fn.thread) l.budget l.used l.q l.pool l.thread
-
-abbrev pub decreases-loop-used : goal.decreases-loop-used
-decreases-loop-used l = l.budget - l.used
