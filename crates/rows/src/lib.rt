@@ -12,9 +12,7 @@ use state::{Queue, Thread};
 pub fn sizes_good(q: Queue, records: u64, words: u64) -> bool
     ensures { result ≡ sizes_good q records words }
 {
-    let threads = q.threads;
-    let blocks = q.blocks;
-    list::setup_good(q, words) && records == memory::table_len(threads, blocks)
+    list::setup_good(q, words) && records == memory::table_len(q.threads, q.blocks)
 }
 
 pub fn shared_good(q: Queue, pool: &[u64]) -> bool
@@ -23,17 +21,14 @@ pub fn shared_good(q: Queue, pool: &[u64]) -> bool
     list::shared_good(q) && list::nexts_good(pool, q.blocks)
 }
 
-// Every record from the i-th on. The entry has tested the table's length, so the depth is at most 8.
+// Every record from the i-th on.
 pub fn all_good(q: Queue, table: &[Thread], i: usize) -> bool
     ensures { result ≡ all_good q (drop i table.now) }
 {
-    if table.len() <= i {
-        return true;
-    }
-    if list::record_good(q, table[i]) {
-        return all_good(q, table, i + 1);
-    }
-    false
+    table
+        .iter()
+        .skip(i)
+        .all(|thread| list::record_good(q, *thread))
 }
 
 pub fn has_thread(q: Queue, number: u64) -> bool
