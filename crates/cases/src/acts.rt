@@ -1,7 +1,7 @@
 // What a line makes of the board, the table and the pool, and what is said of it.
 use crate::asks::Case;
 use crate::board;
-use crate::board::Board;
+use crate::board::{Board, Lent};
 use injector::Request;
 use ring::{Flavor, Ring};
 use say::Said;
@@ -111,8 +111,8 @@ fn begin(number: u64, request: Request, board: Board, table: &mut [Thread; 8], p
 // A step of the table leaves other shared words.
 fn row(number: u64, board: &mut Board, table: &mut [Thread; 8], pool: &mut [u64]) -> Reply {
     let records = board.records.min(8) as usize;
-    let lent = board::lend(board.queue, records, *table, pool, number);
-    *table = lent.table;
-    board.queue = lent.step.queue;
-    Reply::Stepped(lent.step.answer, lent.step.steps)
+    let Lent { step, table: all } = board::lend(board.queue, records, *table, pool, number);
+    *table = all;
+    board.queue = step.queue;
+    Reply::Stepped(step.answer, step.steps)
 }
