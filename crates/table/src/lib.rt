@@ -8,7 +8,7 @@ ghost use Rattle.tabled.specs.Table.{table_entry};
 use rows::{all_good, has_thread, shared_good, sizes_good};
 use state::{Queue, Refusal, Thread};
 pub use tabled::TableStep;
-use tabled::{record_of, refused, rest_of};
+use tabled::refused;
 
 // One shared access of the open call of the table's record `number`. That no call is open is refused by the step.
 #[tactic(auto, using(tabled::proofs::Laws::within), unfolding(tabled::specs::Table::table_entry))]
@@ -18,10 +18,7 @@ pub fn step_table(q: Queue, table: &mut [Thread], pool: &mut [u64], number: u64)
     if !sizes_good(q, table.len() as u64, pool.len() as u64) {
         return refused(q, Refusal::BadSetup);
     }
-    if !shared_good(q, pool) {
-        return refused(q, Refusal::BadState);
-    }
-    if !all_good(q, table, 0) {
+    if !shared_good(q, pool) || !all_good(q, table, 0) {
         return refused(q, Refusal::BadState);
     }
     if !has_thread(q, number) {
@@ -29,6 +26,6 @@ pub fn step_table(q: Queue, table: &mut [Thread], pool: &mut [u64], number: u64)
     }
     let at = number as usize;
     let ran = step::step(q, pool, table[at], number);
-    table[at] = record_of(ran);
-    rest_of(ran)
+    table[at] = ran.thread;
+    ran.into()
 }

@@ -3,10 +3,10 @@
 #![tactic(auto)]
 
 ghost use Rattle.std.specs.Prelude.{◌≡◌};
-ghost use Rattle.tabled.specs.Table.{given, refusal};
+ghost use Rattle.tabled.specs.Table.{refusal};
 
 use machine::Ran;
-use state::{Answer, Queue, Refusal, Thread};
+use state::{Answer, Queue, Refusal};
 
 // What a step of the table gives back; `steps` is the number of table lines made.
 #[derive(Clone, Copy)]
@@ -16,31 +16,27 @@ pub struct TableStep {
     pub steps: u64,
 }
 
-pub fn record_of(ran: Ran) -> Thread
-    ensures { result ≡ ran.thread }
-{
-    ran.thread
-}
+// All that a step of one record gives back, but for the record: that goes to its place in the table.
+impl From<Ran> for TableStep {
+    ghost use Rattle.tabled.specs.Table.{given};
 
-pub fn rest_of(ran: Ran) -> TableStep
-    ensures { result ≡ given ran }
-{
-    let queue = ran.queue;
-    let answer = ran.answer;
-    TableStep {
-        queue,
-        answer,
-        steps: ran.steps,
+    ghost from_gives = { λ ran stepped. stepped ≡ given ran };
+
+    fn from(ran: Ran) -> TableStep {
+        TableStep {
+            queue: ran.queue,
+            answer: ran.answer,
+            steps: ran.steps,
+        }
     }
 }
 
 pub fn refused(q: Queue, number: Refusal) -> TableStep
     ensures { result ≡ refusal q number }
 {
-    let answer = Answer::Refused(number);
     TableStep {
         queue: q,
-        answer,
+        answer: Answer::Refused(number),
         steps: 0,
     }
 }

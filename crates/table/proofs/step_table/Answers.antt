@@ -1,6 +1,6 @@
 -- What `step_table` returns where every test passes, by `tabled`'s law of a step that is made. The record that the code
 -- reads within the table is the one that the definition reads.
-use Rattle.std.proofs.Common.{sym, ap, ◌∙◌}
+use Rattle.std.proofs.Common.{refl, sym, ap, ◌∙◌}
 use Rattle.std.proofs.lemmas.List.{get_or_default}
 use Rattle.state.specs.declared.Thread.{Thread}
 use Rattle.machine.specs.Entry.{step_entry}
@@ -17,5 +17,5 @@ returns c =
     let same = get_or_default ts n _ blank (within q ts m n sizes named) in
     let ran = c.step-ran.ensures.value ∙ ap (λ (t : Thread). (step_entry q m t n).ran) same in
     let pool = c.step-ran.ensures.pool_after ∙ ap (λ (t : Thread). (step_entry q m t n).pool) same in
-    let e = made q ts m n sizes (sym c.if-not-shared_good.ensures) (sym c.if-not-all_good.ensures) named _ _ _ _ ran c.record_of.ensures c.rest_of.ensures pool in
+    let e = made q ts m n sizes (sym c.if-not-shared_good.ensures) (sym c.if-not-all_good.ensures) named _ _ _ _ ran refl c.into.ensures pool in
     (ap (λ (a : TableAfter). a.stepped) e, (ap (λ (a : TableAfter). a.table) e, ap (λ (a : TableAfter). a.pool) e))
