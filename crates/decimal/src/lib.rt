@@ -26,9 +26,8 @@ fn number(field: &[u8]) -> Option<u64>
     ensures { result ≡ number field.now }
 {
     match field {
-        [] => None,
         [b'0'] => Some(0),
-        [b'0', ..] => None,
+        [] | [b'0', ..] => None,
         _ => row(field),
     }
 }

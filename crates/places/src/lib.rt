@@ -11,9 +11,12 @@ pub fn thread_number(command: Command) -> u64
     ensures { result ≡ thread_number command }
 {
     match command {
-        Command::Queue(_, _, _) => 0,
-        Command::Push(n, _) | Command::Batch(n, _) | Command::Take(n, _) | Command::Run(n, _) => n,
-        Command::Steal(n)
+        Command::Queue(..) => 0,
+        Command::Push(n, _)
+        | Command::Batch(n, _)
+        | Command::Take(n, _)
+        | Command::Run(n, _)
+        | Command::Steal(n)
         | Command::Len(n)
         | Command::Empty(n)
         | Command::Pop(n)

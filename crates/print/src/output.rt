@@ -70,18 +70,14 @@ impl Output<'_> {
         self.put(spelt(word));
     }
 
-    fn tab(&mut self)
+    // What parts two fields, or ends a line.
+    #[tactic(auto, using(crate::proofs::Pieces::pieces))]
+    fn byte(&mut self, byte: u8)
         requires { self.old.written + 1 ≤ length self.old.bytes.now }
-        ensures { Adds self.old (9 ∷ []) self.new }
+        ensures { Adds self.old (byte ∷ []) self.new }
     {
-        self.put("\t");
-    }
-
-    fn line_feed(&mut self)
-        requires { self.old.written + 1 ≤ length self.old.bytes.now }
-        ensures { Adds self.old (10 ∷ []) self.new }
-    {
-        self.put("\n");
+        self.bytes[self.written] = byte;
+        self.written += 1;
     }
 
     // Line number, thread, word. (One method with `numbered` would take an Option, and its equation be a match of both.)
@@ -91,11 +87,11 @@ impl Output<'_> {
         ensures { Adds self.old (line_bytes line thread word) self.new }
     {
         self.number(line);
-        self.tab();
+        self.byte(b'\t');
         self.number(thread);
-        self.tab();
+        self.byte(b'\t');
         self.word(word);
-        self.line_feed();
+        self.byte(b'\n');
     }
 
     // Line number, thread, word, number.
@@ -105,13 +101,13 @@ impl Output<'_> {
         ensures { Adds self.old (line_number_bytes line thread word n) self.new }
     {
         self.number(line);
-        self.tab();
+        self.byte(b'\t');
         self.number(thread);
-        self.tab();
+        self.byte(b'\t');
         self.word(word);
-        self.tab();
+        self.byte(b'\t');
         self.number(n);
-        self.line_feed();
+        self.byte(b'\n');
     }
 
     // The line that ends a replay at a malformed line.
@@ -121,9 +117,9 @@ impl Output<'_> {
         ensures { Adds self.old (bad_bytes line) self.new }
     {
         self.number(line);
-        self.tab();
+        self.byte(b'\t');
         self.word(Word::Bad);
-        self.line_feed();
+        self.byte(b'\n');
     }
 
     // A refusal that is no thread's: a queue line with a count out of its range.
@@ -133,11 +129,11 @@ impl Output<'_> {
         ensures { Adds self.old (refused_bytes line n) self.new }
     {
         self.number(line);
-        self.tab();
+        self.byte(b'\t');
         self.word(Word::Refused);
-        self.tab();
+        self.byte(b'\t');
         self.number(n);
-        self.line_feed();
+        self.byte(b'\n');
     }
 
     #[tactic(auto, using(crate::proofs::Pieces::pieces), unfolding(text::specs::Print::end_bytes))]
@@ -146,9 +142,9 @@ impl Output<'_> {
         ensures { Adds self.old (end_bytes steps) self.new }
     {
         self.word(Word::End);
-        self.tab();
+        self.byte(b'\t');
         self.number(steps);
-        self.line_feed();
+        self.byte(b'\n');
     }
 
     // The queue line again. A number has one spelling only, so these are the very bytes that came in.
@@ -158,12 +154,12 @@ impl Output<'_> {
         ensures { Adds self.old (queue_bytes threads blocks ceiling ++ (10 ∷ [])) self.new }
     {
         self.word(Word::Queue);
-        self.tab();
+        self.byte(b'\t');
         self.number(threads);
-        self.tab();
+        self.byte(b'\t');
         self.number(blocks);
-        self.tab();
+        self.byte(b'\t');
         self.number(ceiling);
-        self.line_feed();
+        self.byte(b'\n');
     }
 }
