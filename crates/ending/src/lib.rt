@@ -5,8 +5,8 @@ ghost use Rattle.std.specs.Prelude.{◌≡◌, ◌≤◌, length};
 ghost use Rattle.std.proofs.lemmas.List.Edits.{sets};
 ghost use Rattle.replayed.specs.Feed.{ends};
 
-use lines::{say_bad, say_end};
-use replayed::{Replay, Stage};
+use lines::{Output, say_bad, say_end};
+use replayed::{ROOM, Replay, Stage};
 
 // The last lines of the output, at the front of a buffer with room for them. Answers how many bytes were written.
 pub fn finish(replay: Replay, out: &mut [u8]) -> usize
@@ -14,18 +14,17 @@ pub fn finish(replay: Replay, out: &mut [u8]) -> usize
     ensures value { result ≡ length (ends replay (length out.old)) }
     ensures upper_bound { result ≤ length out.old }
 {
-    if out.len() < 256 {
+    if out.len() < ROOM {
         return 0;
     }
-    let stage = replay.stage;
-    match stage {
-        Stage::First => say_bad(out, 0, replay.number, replay.steps),
-        Stage::Open => {
-            if replay.held == 0 {
-                return say_end(out, 0, replay.steps);
-            }
-            say_bad(out, 0, replay.number, replay.steps)
-        }
-        Stage::Over => 0,
+    let mut output = Output {
+        bytes: out,
+        written: 0,
+    };
+    match replay.stage {
+        Stage::Open if replay.held == 0 => say_end(&mut output, replay.steps),
+        Stage::First | Stage::Open => say_bad(&mut output, replay.number, replay.steps),
+        Stage::Over => {}
     }
+    output.written
 }

@@ -1,5 +1,5 @@
--- how long the queue line is, and that the buffer stays as long as it was
+-- how long the queue line is, and what is added piece by piece
 use Rattle.text.proofs.Lengths.{queue-length}
-use Rattle.text.proofs.Writing.{kept}
+use Rattle.print.proofs.Pieces.{pieces}
 
-pub ruleset lengths = (queue-length, kept)
+pub ruleset lengths = (queue-length, pieces)

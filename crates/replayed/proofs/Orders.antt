@@ -101,3 +101,11 @@ few-blocks a b d e =
 pub setup-pool : (a b d : ℕ) (p : List ℕ) → counts_good a b d ≡ true → length p ≡ b * 128 → set_up_pool a b d p ≡ fresh (pool_len a b) b
 unfolding setup_good
 setup-pool a b d p e s = rw (s, e, eq-eqb (b * 128) (b * 128) refl)
+
+-- so what setup leaves in the words that it is lent of the pool is what the queue line leaves in the pool
+pub queue-pool : (r : Replay) (m : List ℕ) (a b d k : ℕ) {p : List ℕ} → 4096 ≤ length m → counts_good a b d ≡ true → k ≡ min (b * 128) (length m)
+    → p ≡ set_up_pool a b d (take k m) → length p ≡ length (take k m) → p ++ drop k m ≡ (queue_line r m a b d).pool
+queue-pool r m a b d k {p} enough good lent made same =
+    let few = few-blocks a b d good in
+    let all : length (take k m) ≡ b * 128 = length-take-le k m (lent_le m (b * 128) k lent) ∙ omega arith in
+    rw good (lent_back m (b * 128) k lent p same ∙ ap (λ (e : List ℕ). pool_back e m) (made ∙ setup-pool a b d (take k m) good all))
