@@ -1,46 +1,29 @@
-use Rattle.std.proofs.Common.{length, sym, ap, ◌∙◌, arith, rules}
-use Rattle.replayed.proofs.Starting.{starting_hold}
-use Rattle.replayed.proofs.Outcome.{outcome-end, outcome_full}
+use Rattle.std.proofs.Common.{◌≡◌, length, sym, ap, ◌∙◌, arith, rules}
+use Rattle.lines.proofs.Told.{wrote}
+use Rattle.replayed.proofs.Outcome.{outcome-end, outcome_full, came_from}
+use Rattle.replayed.proofs.Running.{outcome_hold, outcome-first}
 use Rattle.journal.proofs.feed_first.Goals as goal
 
 pub returns-then-out-lt-ROOM : goal.returns-then-out-lt-ROOM
 returns-then-out-lt-ROOM c =
-    rw c.gave.ensures
-    (record {
-      comes = outcome_full _ _ _ _ _ _ (rw c.requires.stage_value) (omega arith);
-      inside = search rules;
-      fits = search rules;
-    })
+    record { comes = outcome_full _ _ _ _ _ _ (rw c.requires.stage_value) (omega arith); inside = search rules; fits = search rules }
 
 pub returns-then-byte-eq10 : goal.returns-then-byte-eq10
 returns-then-byte-eq10 c =
     let i = c.loop-read.invariant in
-    let w = c.first_whole.ensures in
-    rw c.requires.stage_value
-    (record { comes = w.comes ∙ sym i.comes; inside = w.inside; fits = omega (arith, ap length i.out_kept) })
+    let o = c.open_line.ensures in
+    let came = came_from {left = c.open_line.new.output.bytes.now} (search rules) c.go_on.ensures in
+    let line = outcome-first _ _ _ _ _ _ c.loop-read-test.true (omega (arith, ap length i.same_out)) c.if-byte-eq10.true i.still o.replay_after o.pool_after (wrote o.wrote) in
+    record { comes = came.comes ∙ sym (i.comes ∙ line); inside = came.inside; fits = omega arith }
 
 pub loop-read-preserved : goal.loop-read-preserved
 loop-read-preserved c =
-    let r = c.args.replay in
-    let l = c.loop-read in
-    let i = l.invariant in
-    let step = starting_hold _ r.queue r.threads l.line l.held r.number r.steps l.pool l.read l.out c.loop-read-test.true
-    (omega (arith, ap length i.out_kept)) c.if-byte-eq10.false
-    in
-    record {
-      comes = i.comes ∙ step ∙ rw (c.hold-held.ensures.value, c.hold-held.ensures.line_after);
-      inside = omega arith;
-      pool_kept = i.pool_kept;
-      out_kept = i.out_kept;
-      held_back = c.hold-held.auto.line ∙ i.held_back;
-    }
+    let i = c.loop-read.invariant in
+    let held = outcome_hold _ _ _ _ _ _ c.loop-read-test.true (omega (arith, ap length i.same_out)) (rw i.still) c.if-byte-eq10.false in
+    record { comes = rw c.hold.ensures (i.comes ∙ held); same_pool = i.same_pool; same_out = i.same_out; still = rw c.hold.ensures i.still }
 
 pub returns : goal.returns
 returns c =
     let i = c.loop-read.invariant in
-    rw (c.gave-2.ensures, c.holding-replay.ensures, c.requires.stage_value)
-    (record {
-      comes = outcome-end _ _ _ _ _ _ c.loop-read-test.false ∙ sym i.comes;
-      inside = i.inside;
-      fits = search rules;
-    })
+    let all : length c.args.piece.now ≡ c.loop-read.read = omega arith in
+    record { comes = rw all (outcome-end _ _ _ _ _ _ c.loop-read-test.false ∙ sym i.comes); inside = search rules; fits = search rules }
