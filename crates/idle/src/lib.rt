@@ -11,10 +11,9 @@ use state::{Call, Thread};
 pub fn idle_thread(flavor: Flavor) -> Thread
     ensures { result ≡ idle_thread flavor }
 {
-    let ring = Ring::new(flavor);
     Thread {
-        ring,
+        ring: Ring::new(flavor),
         call: Call::Idle,
-        taken: [0u64; 63],
+        taken: [0; 63],
     }
 }
