@@ -8,26 +8,27 @@ use say::Said;
 use state::{Answer, Call, Refusal, Thread};
 use std::fmt;
 
+// What the entry answered, where the line asks one.
 #[derive(Clone, Copy)]
 pub(crate) enum Reply {
     Nothing,
-    Ready,
-    Blocks(u64),
-    Unreached,
+    SetUp(Result<(), Refusal>),
+    Audited(Result<Option<u64>, Refusal>),
     // with the steps that it took
     Stepped(Answer, u64),
-    Refused(Refusal),
 }
 
 impl fmt::Display for Reply {
     fn fmt<W: fmt::Write>(&self, f: &mut fmt::Formatter<W>) -> fmt::Result {
         match *self {
             Reply::Nothing => Ok(()),
-            Reply::Ready => write!(f, " -> ready"),
-            Reply::Blocks(n) => write!(f, " -> blocks {n}"),
-            Reply::Unreached => write!(f, " -> tail not reached"),
+            Reply::SetUp(Ok(())) => write!(f, " -> ready"),
+            Reply::Audited(Ok(Some(n))) => write!(f, " -> blocks {n}"),
+            Reply::Audited(Ok(None)) => write!(f, " -> tail not reached"),
             Reply::Stepped(answer, steps) => write!(f, " -> {}, steps {steps}", Said(answer)),
-            Reply::Refused(refusal) => write!(f, " -> {}", Said(Answer::Refused(refusal))),
+            Reply::SetUp(Err(refusal)) | Reply::Audited(Err(refusal)) => {
+                write!(f, " -> {}", Said(Answer::Refused(refusal)))
+            }
         }
     }
 }
@@ -51,7 +52,7 @@ pub(crate) fn act(
         }
         Case::Board(next) => *board = next,
         Case::Word(place, word) => set_word(pool, place, word),
-        Case::Audit => return audited(*board, pool),
+        Case::Audit => return Reply::Audited(injector::audit(board.queue, pool)),
         Case::Stand(call) => return stepped(call, *board, pool),
         Case::Begin(number, request) => begin(number, request, *board, table, pool),
         Case::Fill(number, tokens) => table[(number % 8) as usize].ring.count = tokens,
@@ -70,23 +71,12 @@ fn set_up(threads: u64, blocks: u64, laps: u64, board: &mut Board, pool: &mut [u
         tokens: 0,
         ..*board
     };
-    match started.answer {
-        Ok(()) => Reply::Ready,
-        Err(refusal) => Reply::Refused(refusal),
-    }
+    Reply::SetUp(started.answer)
 }
 
 fn set_word(pool: &mut [u64], place: u64, word: u64) {
     if let Some(old) = pool.get_mut(place as usize) {
         *old = word;
-    }
-}
-
-fn audited(board: Board, pool: &[u64]) -> Reply {
-    match injector::audit(board.queue, pool) {
-        Ok(Some(n)) => Reply::Blocks(n),
-        Ok(None) => Reply::Unreached,
-        Err(refusal) => Reply::Refused(refusal),
     }
 }
 

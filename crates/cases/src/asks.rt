@@ -15,7 +15,7 @@ pub(crate) enum Case {
     Word(u64, u64),
     Audit,
     Stand(Call),
-    // of the record of that number
+    // from here on of the record of that number
     Begin(u64, Request),
     Fill(u64, u64),
     Row(u64),

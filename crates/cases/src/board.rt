@@ -56,7 +56,7 @@ impl Board {
     }
 }
 
-// What the step entry gave back last, and the table.
+// What the step entry gave back, and the table.
 #[derive(Clone, Copy)]
 pub(crate) struct Lent {
     pub(crate) step: TableStep,

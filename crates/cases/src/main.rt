@@ -32,6 +32,7 @@ const POOL_WORDS: usize = 4096;
 const INPUT_BYTES: u64 = 65536;
 
 fn play(out: Stdout, input: &[u8], pool: &mut [u64]) {
+    // no queue, and nothing is lent
     let mut board = Board::of([Some(0); 10]);
     let mut table = acts::idle();
     for line in input.split_inclusive(|byte| *byte == b'\n') {
