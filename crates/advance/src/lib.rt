@@ -1,4 +1,5 @@
 // One line of the step table: the one at which the thread's call stands.
+// The function keeps its types and its `requires`: docs/ARCHITECTURE.md names it as the line where a call stands.
 #![tactic(auto)]
 
 ghost use Rattle.std.specs.Prelude.{◌≡◌, true, ◌*◌, ◌≤◌};

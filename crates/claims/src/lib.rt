@@ -1,4 +1,5 @@
 // S1 to S4 of a steal: load the head, look whether there is something to take, claim it.
+// Each function keeps its types and its `requires`: docs/ARCHITECTURE.md names it as its line's code.
 #![tactic(auto)]
 
 ghost use Rattle.std.specs.Prelude.{◌≡◌, true, ◌*◌, ◌≤◌};

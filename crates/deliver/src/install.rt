@@ -1,4 +1,5 @@
 // P5 to P7: whoever took the block's last ticket installs the next block, its index after it.
+// Each function keeps its types and its `requires`: docs/ARCHITECTURE.md names it as its line's code.
 ghost use Rattle.std.specs.Prelude.{◌≡◌, true, ◌*◌, ◌≤◌};
 ghost use Rattle.index.specs.Position.{position};
 ghost use Rattle.memory.specs.Touch.{after};

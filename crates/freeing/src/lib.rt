@@ -1,4 +1,5 @@
 // S11 to S14 of a steal: mark the claimed slots read, and destroy the block: the walk down, and its return to the pool.
+// Each function keeps its types and its `requires`: docs/ARCHITECTURE.md names it as its line's code.
 #![tactic(auto)]
 
 ghost use Rattle.std.specs.Prelude.{◌≡◌, true};

@@ -1,4 +1,5 @@
 // S5 to S8 of a steal: a claim that ends its block moves the head on to the next block.
+// Each function keeps its types and its `requires`: docs/ARCHITECTURE.md names it as its line's code.
 #![tactic(auto)]
 
 ghost use Rattle.std.specs.Prelude.{◌≡◌, true, ◌*◌, ◌≤◌};

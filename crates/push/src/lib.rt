@@ -1,4 +1,5 @@
 // The lines of a push, P1 to P10: one function a line, one shared access each.
+// The function keeps its types and its `requires`: docs/ARCHITECTURE.md names it as the step of a push.
 #![tactic(auto)]
 
 ghost use Rattle.std.specs.Prelude.{◌≡◌, true, ◌*◌, ◌≤◌};

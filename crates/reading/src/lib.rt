@@ -1,4 +1,5 @@
 // S9 and S10 of a steal: wait for each claimed slot, read it, and hand the tokens over with the last.
+// Each function keeps its types and its `requires`: docs/ARCHITECTURE.md names it as its line's code.
 #![tactic(auto)]
 
 ghost use Rattle.std.specs.Prelude.{◌≡◌, true, ◌≤◌};

@@ -1,4 +1,5 @@
 // The lines of a steal and of both batches, S1 to S14: one function a line, one shared access each.
+// The function keeps its types and its `requires`: docs/ARCHITECTURE.md names it as the step of a steal or a batch.
 #![tactic(auto)]
 
 ghost use Rattle.std.specs.Prelude.{◌≡◌, true, ◌*◌, ◌≤◌};

@@ -1,4 +1,5 @@
 // P3 and P4: a block taken where one will be needed, and the ticket.
+// Each function keeps its types and its `requires`: docs/ARCHITECTURE.md names it as its line's code.
 #![tactic(auto)]
 
 ghost use Rattle.std.specs.Prelude.{◌≡◌, ◌*◌, ◌≤◌};
