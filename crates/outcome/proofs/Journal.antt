@@ -1,7 +1,7 @@
 -- Each public function of `journal` has one outcome at most.
 use Rattle.outcome.specs.One.{One}
 use Rattle.outcome.proofs.Equations.{both, pair, first, later}
-use Rattle.outcome.proofs.Opening.{whole}
+use Rattle.outcome.proofs.Later.{whole}
 use Rattle.journal as journal
 
 pub feed : One journal.specs.contracts.feed.ended journal.proofs.feed.Reads.Learnt

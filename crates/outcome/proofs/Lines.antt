@@ -16,9 +16,6 @@ later_line _ _ _ _ _ _ p q = (both p q, refl)
 pub hold : One lines.specs.contracts.hold.ended lines.proofs.hold.Reads.Learnt
 hold _ _ _ _ _ _ p q = (refl, first (both p q))
 
-pub saturating : One lines.specs.contracts.saturating.ended lines.proofs.saturating.Reads.Learnt
-saturating _ _ _ _ _ _ p q = (both p q, refl)
-
 pub say : One lines.specs.contracts.say.ended lines.proofs.say.Reads.Learnt
 say _ _ _ _ _ _ p q = (refl, first (both p.0.value q.0.value))
 
