@@ -25,7 +25,7 @@ fn chase(pool: &[u64], at: u64, tail: u64, met: u64, left: u64) -> Result<Option
 }
 
 // It changes nothing.
-#[tactic(auto, unfolding(machine::specs::Audit::audit_entry))]
+#[tactic(auto, using(machine::specs::TestLaws::counted), unfolding(machine::specs::Audit::audit_entry))]
 pub fn audit(q: Queue, pool: &[u64]) -> Result<Option<u64>, Refusal>
     ensures { result ≡ audit_entry q pool.now }
 {

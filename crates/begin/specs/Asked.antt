@@ -1,7 +1,7 @@
 -- The tests of a begin in their order: those of an entry that wants no call open, then NO_LIMIT and NO_ROOM. Below it, that
 -- a begin is defined so.
 use Rattle.std.specs.Prelude.{ℕ, ◌≡◌, refl, Bool, true, false, cond, List, Result, Ok, Err}
-use Rattle.std.proofs.Common.{ap, arith}
+use Rattle.std.proofs.Common.{ap}
 use Rattle.state.specs.List.{limit_good, room_good}
 use Rattle.state.specs.declared.Queue.{Queue}
 use Rattle.state.specs.declared.Thread.{Thread}
@@ -33,16 +33,16 @@ module _ (t : Thread) (what : Request) where
   told {s} {r} e = let z : s ≡ r = cc in ap (not_given t) z
 
   given-refused : (idle limit room : Bool) (r : Refusal) → asked idle limit room ≡ Err r → given idle limit room ≡ not_given t r
-  given-refused true true true r e = absurd (let z : ◌≡◌ {A = ℕ} 0 1 = cc in omega arith)
+  given-refused true true true r e = cc
   given-refused true true false r e = told e
   given-refused true false room r e = told e
   given-refused false limit room r e = told e
 
   given-begun : (idle limit room : Bool) → asked idle limit room ≡ Ok tt → given idle limit room ≡ begun t what
   given-begun true true true e = refl
-  given-begun true true false e = absurd (let z : ◌≡◌ {A = ℕ} 0 1 = cc in omega arith)
-  given-begun true false room e = absurd (let z : ◌≡◌ {A = ℕ} 0 1 = cc in omega arith)
-  given-begun false limit room e = absurd (let z : ◌≡◌ {A = ℕ} 0 1 = cc in omega arith)
+  given-begun true true false e = cc
+  given-begun true false room e = cc
+  given-begun false limit room e = cc
 
   -- the order of the tests is one, however they are grouped
   grouped : (k : Kind) (count : ℕ) (b : Bool) → or_limit k count (cond b (Ok tt) (Err Busy)) ≡ asked b (limit_good k) (room_good k count)
@@ -56,7 +56,7 @@ module _ (t : Thread) (what : Request) where
       (rw grouped at e)
 
   by-passed : (x : Result Unit Refusal) → or_limit (tested_as what) t.ring.count (or_busy t x) ≡ Ok tt → begin_tested t what x ≡ begun t what
-  by-passed (Err s) e = absurd (let z : ◌≡◌ {A = ℕ} 0 1 = cc in omega arith)
+  by-passed (Err s) e = cc
   by-passed (Ok tt) e =
       given-begun (is_idle t.call) (limit_good (tested_as what)) (room_good (tested_as what) t.ring.count)
       (rw grouped at e)

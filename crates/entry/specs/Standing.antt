@@ -1,7 +1,7 @@
 -- The tests of an entry that goes on with a call, and of one that wants none open: the first three, then IDLE or BUSY.
 -- Below them, that the entries are defined so.
 use Rattle.std.specs.Prelude.{Option, ℕ, ◌≡◌, refl, Bool, true, false, cond, List, Result, Ok, Err}
-use Rattle.std.proofs.Common.{ap, arith}
+use Rattle.std.proofs.Common.{ap}
 use Rattle.ring.specs.Ring.{popped}
 use Rattle.state.specs.declared.Queue.{Queue}
 use Rattle.state.specs.declared.Thread.{Thread}
@@ -28,20 +28,20 @@ tested_idle q m t n = or_busy t (tested q m t n)
 -- ---- a test that refuses, in two parts: b and then nothing more
 
 passes-left : (b : Bool) (r : Refusal) → cond b (Err r) (Ok (tt {0})) ≡ Ok tt → b ≡ false
-passes-left true r e = absurd (let z : ◌≡◌ {A = ℕ} 0 1 = cc in omega arith)
+passes-left true r e = cc
 passes-left false r e = refl
 
 passes_right : (b : Bool) (r : Refusal) → cond b (Ok (tt {0})) (Err r) ≡ Ok tt → b ≡ true
 passes_right true r e = refl
-passes_right false r e = absurd (let z : ◌≡◌ {A = ℕ} 0 1 = cc in omega arith)
+passes_right false r e = cc
 
 module _ {A : Type 0} (f : Refusal → A) (y : A) where
   refuses_left : (b : Bool) (r s : Refusal) → cond b (Err s) (Ok (tt {0})) ≡ Err r → cond b (f s) y ≡ f r
   refuses_left true r s e = let z : s ≡ r = cc in ap f z
-  refuses_left false r s e = absurd (let z : ◌≡◌ {A = ℕ} 0 1 = cc in omega arith)
+  refuses_left false r s e = cc
 
   refuses_right : (b : Bool) (r s : Refusal) → cond b (Ok (tt {0})) (Err s) ≡ Err r → cond b y (f s) ≡ f r
-  refuses_right true r s e = absurd (let z : ◌≡◌ {A = ℕ} 0 1 = cc in omega arith)
+  refuses_right true r s e = cc
   refuses_right false r s e = let z : s ≡ r = cc in ap f z
 
 -- ---- what passed
@@ -55,11 +55,11 @@ pub record Vacant (q : Queue) (m : List ℕ) (t : Thread) (n : ℕ) : Type 0 whe
   pub idle : is_idle t.call ≡ true
 
 both_open : (t : Thread) (x : Result Unit Refusal) → or_idle t x ≡ Ok tt → (x ≡ Ok tt) × (is_idle t.call ≡ false)
-both_open t (Err r) e = absurd (let z : ◌≡◌ {A = ℕ} 0 1 = cc in omega arith)
+both_open t (Err r) e = cc
 both_open t (Ok tt) e = (refl, passes-left (is_idle t.call) Idle e)
 
 both-idle : (t : Thread) (x : Result Unit Refusal) → or_busy t x ≡ Ok tt → (x ≡ Ok tt) × (is_idle t.call ≡ true)
-both-idle t (Err r) e = absurd (let z : ◌≡◌ {A = ℕ} 0 1 = cc in omega arith)
+both-idle t (Err r) e = cc
 both-idle t (Ok tt) e = (refl, passes_right (is_idle t.call) Busy e)
 
 module _ (q : Queue) (m : List ℕ) (t : Thread) (n : ℕ) where

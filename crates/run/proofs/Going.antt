@@ -62,7 +62,7 @@ going q m t budget setup state =
 -- no scan of the pool: where the nexts are good, the list is as the rest of it
 no_scan : (a n b : Bool) → n ≡ true → (a && n && b) ≡ (a && b)
 no_scan true true b e = refl
-no_scan true false b e = absurd (let z : ◌≡◌ {A = ℕ} 0 1 = cc in omega arith)
+no_scan true false b e = cc
 no_scan false n b e = refl
 
 module _ (all : After) (budget used : ℕ) (q : Queue) (m : List ℕ) (t : Thread) (g : Going all budget used q m t) where

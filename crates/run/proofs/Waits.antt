@@ -37,7 +37,7 @@ use Rattle.machine.specs.TestLaws.{good-shared, good_record}
 
 goes_on : (a b : Bool) (x y : After) → (a && b) ≡ true → cond a (cond b x y) y ≡ x
 goes_on true b x y e = rw e
-goes_on false b x y e = absurd (let z : ◌≡◌ {A = ℕ} 0 1 = cc in omega arith)
+goes_on false b x y e = cc
 
 stops : (a b : Bool) (x y : After) → (a && b) ≡ false → cond a (cond b x y) y ≡ y
 stops true b x y e = rw e
@@ -197,7 +197,7 @@ module _ (q : Queue) (m : List ℕ) (t : Thread) (good : state_good q m t ≡ tr
 
   run-says : (w : Wait) → Says q m t.call w → waits w ≡ true → (n : ℕ) → run_from n q m t ≡ done q m (with_call t (waited_call t.call w n)) Open n
   unfolding step_of
-  run-says No e h n = absurd (let z : ◌≡◌ {A = ℕ} 0 1 = cc in omega arith)
+  run-says No e h n = cc
   run-says Stays e h n = run-stays q m t good (e t) n
   run-says (Turns other) e h n = run_turns q m t good other (e.out t) (e.back (with_call t other)) (turned_good other e) n
 
