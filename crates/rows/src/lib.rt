@@ -21,7 +21,7 @@ pub fn shared_good(q: Queue, pool: &[u64]) -> bool
     list::shared_good(q) && list::nexts_good(pool, q.blocks)
 }
 
-// Every record from the i-th on.
+// Every record from the i-th on: its theorem in outcome, `says_is`, names `i`, so it stays.
 pub fn all_good(q: Queue, table: &[Thread], i: usize) -> bool
     ensures { result ≡ all_good q (drop i table.now) }
 {
