@@ -10,6 +10,7 @@ use replayed::{Replay, Stage};
 use text::Command;
 
 // A byte is read only where 256 bytes of the buffer are free, so the room that is asked for is there.
+#[tactic(auto, using(std::proofs::lemmas::List::take_min, std::proofs::lemmas::List::get_or_default))]
 pub fn hear(replay: &mut Replay, command: Command, pool: &mut [u64], output: &mut Output<'_>)
     requires { output.old.written + 256 ≤ length output.old.bytes.now }
     ensures replay_after { replay.new ≡ (ordered_by replay.old pool.old command).replay }

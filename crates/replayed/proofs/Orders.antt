@@ -2,13 +2,13 @@
 use Rattle.std.specs.Prelude.{Option, Some, None}
 use Prim.Native.Nat.{ℕ, ◌*◌, ◌≤◌, min}
 use mathlib.Core.Path.{◌≡◌, refl, sym, ap, ◌∙◌}
-use mathlib.Core.Bool.{Bool, true, false, ◌&&◌}
+use mathlib.Core.Bool.{true, false, ◌&&◌}
 use mathlib.Core.List.{List, ◌++◌}
 use native.Mathlib.Omega.{arith}
 use lib.ListN.{length, take, drop}
-use lib.Seq.{take_all, length-take-le}
+use lib.Seq.{length-take-le}
 use lib.Dec.{leb}
-use borrow.Author.Tests.{leb-true, leb-false, eq-eqb}
+use borrow.Author.Tests.{leb-true, eq-eqb}
 use Rattle.state.specs.List.{counts_good, setup_good}
 use Rattle.state.specs.ListLaws.{both}
 use Rattle.memory.specs.Pool.{fresh, pool_len}
@@ -76,15 +76,6 @@ module _ (r : Replay) (m : List ℕ) where
 module _ (m : List ℕ) (n k : ℕ) (lent : k ≡ min n (length m)) where
   pub lent_le : k ≤ length m
   lent_le = omega arith
-
-  pub lent-take : take k m ≡ take n m
-  lent-take = go (leb n (length m)) refl
-    where
-      go : (b : Bool) → leb n (length m) ≡ b → take k m ≡ take n m
-      go true q = let s : k ≡ n = omega (arith, leb-true n (length m) q) in rw s
-      go false q =
-          let h = leb-false n (length m) q in
-          take_all k m (omega arith) ∙ sym (take_all n m (omega arith))
 
   pub lent_back : (e : List ℕ) → length e ≡ length (take k m) → e ++ drop k m ≡ pool_back e m
   lent_back e same =

@@ -1,16 +1,13 @@
 -- What one byte makes of a feed that goes on.
 use Rattle.std.specs.Prelude.{Some, None}
-use Prim.Native.Nat.{ℕ, zero, suc, ◌+◌, ◌-◌, ◌≤◌, ◌<◌}
+use Prim.Native.Nat.{ℕ, ◌+◌, ◌-◌, ◌≤◌, ◌<◌}
 use mathlib.Core.Path.{◌≡◌, refl, sym, ◌∙◌}
 use mathlib.Core.Bool.{false}
-use mathlib.Core.List.{List, [], ◌∷◌, ◌++◌}
+use mathlib.Core.List.{List, [], ◌++◌}
 use native.Mathlib.Nat.{add-zero}
 use native.Mathlib.Omega.{arith}
 use lib.ListN.{length, get_or}
 use borrow.Author.Tests.{eq-eqb, ne_eqb}
-use Rattle.ring.specs.declared.Flavor.TheVariants.{Fifo}
-use Rattle.state.specs.declared.Call.TheVariants.{Idle}
-use Rattle.state.specs.declared.Thread.{Thread}
 use Rattle.text.specs.declared.Command.{Command}
 use Rattle.text.specs.Print.{Wrote, bad_bytes, end_bytes}
 use Rattle.replayed.specs.declared.Stage.{Stage}
@@ -75,12 +72,3 @@ module _ (piece : List ℕ) (r : Replay) (m : List ℕ) (read : ℕ) (out : List
     outcome-heard now good er em w =
         outcome-comes piece r m read out written inside (rw now) room (byte_feed r m (get_or piece read 0) now feed ∙ later-good r m (line_of r) good) w
         ∙ rw (er, em)
-
-pub get_d_any : (l : List Thread) (i : ℕ) (d e : Thread) → i < length l → get_or l i d ≡ get_or l i e
-get_d_any [] i d e h = absurd (omega arith)
-get_d_any (x ∷ l) zero d e h = refl
-get_d_any (x ∷ l) (suc i) d e h = get_d_any l i d e (omega arith)
-
--- what an array of records holds past its end
-abbrev pub blank : Thread
-blank = record { ring = record { tokens = []; count = 0; flavor = Fifo }; call = Idle; taken = [] }
