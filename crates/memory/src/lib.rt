@@ -1,5 +1,6 @@
 // The lent words of the pool. A read past the end is 0 and a store past the end changes nothing, so that
 // no function here asks anything of its caller but that a sum or a product fits.
+// Blocks are named by number: the memory is lent, its layout is published (specs/Layout.antt), and there is no heap.
 #![tactic(auto)]
 
 ghost use Rattle.std.specs.Prelude.{◌≡◌, ℕ, ◌+◌, ◌*◌, ◌<◌, ◌≤◌, ◌-◌, ◌^◌, get_or, set, min};

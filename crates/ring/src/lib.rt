@@ -12,6 +12,7 @@ pub enum Flavor {
     Lifo,
 }
 
+// An array with its count beside: no heap, and the theorems of specs/Laws.antt speak of both.
 #[derive(Clone, Copy)]
 pub struct Ring {
     pub tokens: [u64; 64],
@@ -37,6 +38,7 @@ impl Ring {
     }
 
     // A batch moves in behind what the ring holds: the tokens of `batch` from `first` up to `end`, Fifo in order, Lifo reversed.
+    // Batch and places stay three: for the slice of them the equation would be the longer `entered self batch.now 0 (length batch.now)`.
     // The step machine tests what is required on the list of broken states, before a call's tokens are handed over.
     #[tactic(auto, using(crate::proofs::Entering::enters))]
     pub fn enter(self, batch: [u64; 63], first: u64, end: u64) -> Ring
