@@ -27,13 +27,11 @@ pub fn hear(replay: &mut Replay, command: Command, pool: &mut [u64], output: &mu
         command,
     );
     say(output, replay.number, thread_number(command), done.said);
+    // field by field: a struct update would copy the eight records for each line
     replay.threads[place] = done.thread;
-    *replay = Replay {
-        queue: done.queue,
-        held: 0,
-        number: replay.number.saturating_add(1),
-        steps: replay.steps.saturating_add(done.steps),
-        stage: Stage::Open,
-        ..*replay
-    };
+    replay.queue = done.queue;
+    replay.held = 0;
+    replay.number = replay.number.saturating_add(1);
+    replay.steps = replay.steps.saturating_add(done.steps);
+    replay.stage = Stage::Open;
 }
