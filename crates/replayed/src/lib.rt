@@ -32,7 +32,8 @@ pub enum Stage {
     Over,
 }
 
-// The replay between two reads. `held` bytes of the line were read, 81 where they are more than 80.
+// The replay between two reads. `held` bytes of the line were read, 81 where they are more than 80. (An array with a count: no
+// heap, and a line that is too long is told by it.)
 #[derive(Clone, Copy)]
 pub struct Replay {
     pub queue: Queue,

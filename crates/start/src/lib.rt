@@ -22,7 +22,8 @@ fn at_start(threads: u64, blocks: u64, ceiling: u64) -> Queue
     }
 }
 
-// Block 0 is taken, head and tail stand at index 0 on it, all other blocks are free.
+// Block 0 is taken, head and tail stand at index 0 on it, all other blocks are free. (Three numbers and no struct of them: they
+// go into the queue at once, one by one, and stand so in line 1 of a log.)
 pub fn setup(threads: u64, blocks: u64, ceiling: u64, pool: &mut [u64]) -> Started
     ensures value { result ≡ set_up threads blocks ceiling (length pool.old) }
     ensures pool_after { pool.new ≡ set_up_pool threads blocks ceiling pool.old }

@@ -54,7 +54,8 @@ pub struct Claim {
     pub advance: u64,
 }
 
-// What a thief has won, once its tokens are handed over: its answer when the call ends.
+// What a thief has won, once its tokens are handed over: its answer when the call ends. (No Option: a batch that moved has not
+// won nothing.)
 #[derive(Clone, Copy)]
 pub enum Won {
     Task(u64),
@@ -94,7 +95,7 @@ pub enum LengthLine {
     L3(Index, Index),
 }
 
-// The loads of `is_empty`: head, tail.
+// The loads of `is_empty`: head, tail. (Lines of the step table, as those above; no Option.)
 #[derive(Clone, Copy)]
 pub enum EmptyLine {
     E1,
@@ -172,7 +173,8 @@ pub enum Refusal {
     Spent,
 }
 
-// The answer of a step or a run.
+// The answer of a step or a run. (No Result: a refusal is one of document 01's ten answers, by which the theorems go, and Open
+// is no success.)
 #[derive(Clone, Copy)]
 pub enum Answer {
     Open,
