@@ -52,6 +52,18 @@ fn popped_said(popped: Result<Option<u64>, Refusal>) -> Said
     }
 }
 
+// A begin and a ring pop make no step and leave the shared words as they are.
+fn unmoved(queue: Queue, thread: Thread, said: Said) -> Done
+    ensures { result ≡ record { queue = queue; thread = thread; said = said; steps = 0 } }
+{
+    Done {
+        queue,
+        thread,
+        said,
+        steps: 0,
+    }
+}
+
 // What a step or a run came to; `still` is what is said where the call stays open.
 fn ran_done(ran: Ran, still: Said) -> Done
     ensures { result ≡ record { queue = ran.queue; thread = ran.thread; said = answer_said still ran.answer; steps = ran.steps } }
@@ -78,27 +90,17 @@ fn request_of(command: Command) -> Request
     }
 }
 
-// What a command of a thread does. Nobody asks it of a queue line. A begin and a ring pop make no step and leave the shared
-// words as they are; a step that leaves its call open says nothing; a run that does has used its budget up, and says so.
+// What a command of a thread does. Nobody asks it of a queue line. A step that leaves its call open says nothing; a run that
+// does has used its budget up, and says so.
 pub(crate) fn obey(q: Queue, pool: &mut [u64], thread: Thread, command: Command) -> Done
     ensures value { result ≡ (order_of q pool.old thread command).done }
     ensures pool_after { pool.new ≡ (order_of q pool.old thread command).pool }
 {
-    let idle = Done {
-        queue: q,
-        thread,
-        said: Said::Silent,
-        steps: 0,
-    };
     match command {
-        Command::Queue(..) => idle,
+        Command::Queue(..) => unmoved(q, thread, Said::Silent),
         Command::Pop(n) => {
             let popped = pop::pop(q, pool, thread, n);
-            Done {
-                thread: popped.thread,
-                said: popped_said(popped.answer),
-                ..idle
-            }
+            unmoved(q, popped.thread, popped_said(popped.answer))
         }
         Command::Step(n) => ran_done(step::step(q, pool, thread, n), Said::Silent),
         Command::Run(n, budget) => {
@@ -109,11 +111,7 @@ pub(crate) fn obey(q: Queue, pool: &mut [u64], thread: Thread, command: Command)
         }
         _ => {
             let begun = begin::begin(q, pool, thread, thread_number(command), request_of(command));
-            Done {
-                thread: begun.thread,
-                said: began_said(begun.answer),
-                ..idle
-            }
+            unmoved(q, begun.thread, began_said(begun.answer))
         }
     }
 }
