@@ -76,8 +76,16 @@ pub(crate) fn at_end(output: Stdout, replay: Replay, pool: &[u64], out: &mut [u8
             let _ = println!(output; "#block\t{block}\t{}", Block { pool, block });
         }
     }
-    for (number, thread) in replay.threads.iter().enumerate().take(queue.threads as usize) {
+    for (number, thread) in replay
+        .threads
+        .iter()
+        .enumerate()
+        .take(queue.threads as usize)
+    {
         let ring = thread.ring;
-        let _ = println!(output; "#ring\t{number}{}", Row(&ring.tokens[..ring.count.min(64) as usize]));
+        let _ = println!(output;
+            "#ring\t{number}{}",
+            Row(&ring.tokens[..ring.count.min(64) as usize])
+        );
     }
 }
