@@ -74,7 +74,7 @@ pub some_inj : (a b : ℕ) → some a ≡ some b → a ≡ b
 some_inj a b e = cc
 
 pub none-some : {A : Type 0} (a : ℕ) → none ≡ some a → A
-none-some a e = absurd (let z : ◌≡◌ {A = ℕ} 0 1 = cc in omega arith)
+none-some a e = cc
 
 pub serving : (o : Own) (l : ℕ) → lap_of o ≡ some l → Serving l o
 serving Free l e = none-some l e

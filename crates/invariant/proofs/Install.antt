@@ -134,16 +134,16 @@ p5-kept s i count taken v t b x h ok =
 
 -- two owners that are not the same
 free_open : {A : Type 0} (l : ℕ) → Open l ≡ Free → A
-free_open l e = absurd (let z : ◌≡◌ {A = ℕ} 0 1 = cc in omega arith)
+free_open l e = cc
 
 held_open : {A : Type 0} (l i : ℕ) → Open l ≡ Held i → A
-held_open l i e = absurd (let z : ◌≡◌ {A = ℕ} 0 1 = cc in omega arith)
+held_open l i e = cc
 
 back_open : {A : Type 0} (l k f i : ℕ) → Open l ≡ Back k f i → A
-back_open l k f i e = absurd (let z : ◌≡◌ {A = ℕ} 0 1 = cc in omega arith)
+back_open l k f i e = cc
 
 held-free : {A : Type 0} (i : ℕ) → Held i ≡ Free → A
-held-free i e = absurd (let z : ◌≡◌ {A = ℕ} 0 1 = cc in omega arith)
+held-free i e = cc
 
 open_inj : (a b : ℕ) → Open a ≡ Open b → a ≡ b
 open_inj a b e = cc
@@ -201,7 +201,7 @@ module _ (s : State) (i v t b x : ℕ) (h : Shared s) (ok : P6Ok s i v t b x) wh
   unlinked : {A : Type 0} (a y : ℕ) → a ≡ x → nxt s a ≡ Some y → A
   unlinked a y e q =
       let f : None ≡ Some y = sym (h.held_next a i (was-held a e)) ∙ q in
-      absurd (let z : ◌≡◌ {A = ℕ} 0 1 = cc in omega arith)
+      cc
 
   -- what is said by the owners, by the marks of serving blocks and by their links: of x, and of every other block
   owners : (P : Own → Type 0) (a : ℕ) → (a ≡ x → P (Open (lp (T s) + 1))) → P (own s a) → P (own (installed s t x) a)

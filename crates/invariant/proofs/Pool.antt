@@ -213,7 +213,7 @@ module _ (s : State) (x : ℕ) (w : Own) (touch : Touch) (h : Shared s) (change 
 -- P3
 
 block-nothing : {A : Type 0} (y : ℕ) → None ≡ Some y → A
-block-nothing y e = absurd (let z : ◌≡◌ {A = ℕ} 0 1 = cc in omega arith)
+block-nothing y e = cc
 
 module _ (s : State) (i x : ℕ) (h : Shared s) (n : x < N s) (f : free s x ≡ true) where
   was_free : own s x ≡ Free

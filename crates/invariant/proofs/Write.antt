@@ -194,10 +194,10 @@ module _ (s : State) (i v t b : ℕ) (h : Shared s) (owes : Owes s i v t b) wher
       (λ m. refl)
 
   pub read_kept : (c o : ℕ) → o < 63 → R s c o ≡ R (marked-on s t b) c o
-  read_kept c o q = kept Read c o (λ e. absurd (let z : ◌≡◌ {A = ℕ} 0 1 = cc in omega arith)) q
+  read_kept c o q = kept Read c o (λ e. cc) q
 
   pub destroy_kept : (c o : ℕ) → o < 63 → D s c o ≡ D (marked-on s t b) c o
-  destroy_kept c o q = kept Destroy c o (λ e. absurd (let z : ◌≡◌ {A = ℕ} 0 1 = cc in omega arith)) q
+  destroy_kept c o q = kept Destroy c o (λ e. cc) q
 
   pub still : (c o : ℕ) → o < 63 → W s c o ≡ true → W (marked-on s t b) c o ≡ true
   still c o q m = words (λ w. has Write w ≡ true) c o q (λ e f. has-or Write (state s.pool b (off t))) (λ n. m)

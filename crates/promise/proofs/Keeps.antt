@@ -54,9 +54,9 @@ passes-thread q m t n e = go (setup_good q (length m)) (state_good q m t) (ltb n
         → cond a (cond b (cond d (Ok (tt {0})) (Err NoThread)) (Err BadState)) (Err BadSetup) ≡ Ok tt
         → n < q.threads
     go true true true f h = ltb-true n q.threads f
-    go true true false f h = absurd (let z : ◌≡◌ {A = ℕ} 0 1 = cc in omega arith)
-    go true false d f h = absurd (let z : ◌≡◌ {A = ℕ} 0 1 = cc in omega arith)
-    go false b d f h = absurd (let z : ◌≡◌ {A = ℕ} 0 1 = cc in omega arith)
+    go true true false f h = cc
+    go true false d f h = cc
+    go false b d f h = cc
 
 -- a thread stored back as it was
 pub same-board : (w : Board) (n : ℕ) → with_thread w n (thread_at w n) ≡ w

@@ -1,7 +1,7 @@
 -- What the BAD_STATE list's tests tell where they hold: a law for `&&`, then one for each item, then the lines that
 -- lean on one.
 use Rattle.std.specs.Prelude.{ℕ, ◌+◌, ◌≤◌, ◌<◌, ◌≡◌, refl, Bool, true, false, ◌&&◌, ltb, leb}
-use Rattle.std.proofs.Common.{arith, ltb-true, leb-true}
+use Rattle.std.proofs.Common.{ltb-true, leb-true}
 use Rattle.index.specs.Position.{position, offset}
 use Rattle.index.specs.declared.Index.{Index}
 use Rattle.state.specs.declared.Queue.{Queue}
@@ -13,7 +13,7 @@ use Rattle.state.specs.List.{block_good, loaded_good, slot_good, claim_good, in_
 -- both tests of an `&&`, which nests to the left
 pub both : (a b : Bool) → (a && b) ≡ true → (a ≡ true) × (b ≡ true)
 both true b e = (refl, e)
-both false b e = absurd (let z : ◌≡◌ {A = ℕ} 0 1 = cc in omega arith)
+both false b e = cc
 
 pub block-below : (q : Queue) (b : ℕ) → block_good q b ≡ true → b < q.blocks
 block-below q b e = ltb-true b q.blocks e
