@@ -15,9 +15,10 @@ pub use replayed::{Fed, Replay, Stage};
 pub use whole::new;
 
 // No queue uses more of the lent words.
-const LARGEST_POOL: usize = 4096;
+pub const LARGEST_POOL: usize = 4096;
 
 // From a place of the piece on, with line 1 read. Once the replay is over, the rest of the piece is passed over.
+#[tactic(auto, using(crate::proofs::Bytes::bytes))]
 fn go_on(fed: Fed, pool: &mut [u64], piece: &[u8], out: &mut [u8]) -> Fed
     requires { (is_first fed.replay.stage ≡ false) × (fed.read ≤ length piece.now) × (fed.written ≤ length out.old) }
     ensures { Came piece.now fed.replay pool.old fed.read out.old fed.written result pool.new out.new }
@@ -32,6 +33,7 @@ fn go_on(fed: Fed, pool: &mut [u64], piece: &[u8], out: &mut [u8]) -> Fed
 }
 
 // Line 1, which opens the queue or ends the replay, and what follows it.
+#[tactic(auto, using(crate::proofs::Bytes::bytes))]
 fn feed_first(mut replay: Replay, pool: &mut [u64], piece: &[u8], out: &mut [u8]) -> Fed
     requires stage_value { replay.stage ≡ First }
     requires in_bounds { 4096 ≤ length pool.old }
@@ -69,7 +71,7 @@ fn feed_first(mut replay: Replay, pool: &mut [u64], piece: &[u8], out: &mut [u8]
 
 // Reads bytes from the front of the piece while the buffer has room, and writes what they make at its front. What is
 // not read is for the caller to feed again. With less lent than the largest pool needs nothing is read.
-#[tactic(auto, using(crate::proofs::Short::short))]
+#[tactic(auto, using(crate::proofs::Feeds::feeds))]
 pub fn feed(replay: Replay, pool: &mut [u64], piece: &[u8], out: &mut [u8]) -> Fed
     ensures read_value { result.read ≡ reads replay pool.old piece.now (length out.old) }
     ensures replay_value { result.replay ≡ (fed replay pool.old piece.now (length out.old)).replay }

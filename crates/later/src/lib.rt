@@ -12,6 +12,7 @@ use whole::over;
 
 // From a place of the piece and of the buffer on. A malformed line ends the replay: the rest of the piece is passed over.
 // The library has looked at the stage, and hands places inside the piece and the buffer over.
+#[tactic(auto, using(crate::proofs::Bytes::bytes))]
 pub fn feed_open(fed: Fed, pool: &mut [u64], piece: &[u8], out: &mut [u8]) -> Fed
     requires { (fed.replay.stage ≡ Open) × (fed.read ≤ length piece.now) × (fed.written ≤ length out.old) }
     ensures { Came piece.now fed.replay pool.old fed.read out.old fed.written result pool.new out.new }

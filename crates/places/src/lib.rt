@@ -31,8 +31,5 @@ pub fn place_of(command: Command) -> usize
     ensures upper_bound { result < 8 }
 {
     let n = thread_number(command);
-    if n < 8 {
-        return n as usize;
-    }
-    0
+    if n < 8 { n as usize } else { 0 }
 }

@@ -1,6 +1,6 @@
 -- What a feed comes to, a byte at a time.
 use Prim.Native.Nat.{ℕ, suc, ◌+◌, ◌-◌, ◌≤◌, ◌<◌}
-use mathlib.Core.Path.{◌≡◌, refl, ap, ◌∙◌}
+use mathlib.Core.Path.{◌≡◌, refl, ◌∙◌}
 use mathlib.Core.Bool.{Bool, true, false, cond}
 use mathlib.Core.List.{List, [], ◌∷◌, ◌++◌}
 use native.Mathlib.Nat.{add-zero, zero-add, add-suc, suc-add, add_assoc}
@@ -128,36 +128,15 @@ module _ (r : Replay) (m piece : List ℕ) where
     unfolding fed told
     short-fed = rw (lt-leb 4096 (length m) short)
 
-  fed_long : (out : List ℕ) → 4096 ≤ length m
+  -- with as much
+  pub fed_long : (out : List ℕ) → 4096 ≤ length m
       → outcome piece r m 0 out 0
       ≡ at (fed r m piece (length out)).replay (fed r m piece (length out)).pool (reads r m piece (length out))
-      (sets out 0 (fed r m piece (length out)).out) (0 + length (fed r m piece (length out)).out)
+      (sets out 0 (fed r m piece (length out)).out) (length (fed r m piece (length out)).out)
   unfolding outcome fed rest
   fed_long out h =
       let e : length out - 0 ≡ length out = omega arith in
-      rw (le-leb 4096 (length m) h, e, zero-add)
-
--- with as much
-module _ {piece : List ℕ} {r : Replay} {m out : List ℕ} {f : Fed} {m2 out2 : List ℕ} (long : 4096 ≤ length m) (c : Came piece r m 0 out 0 f m2 out2) where
-  comes : at f.replay m2 f.read out2 f.written
-      ≡ at (fed r m piece (length out)).replay (fed r m piece (length out)).pool (reads r m piece (length out))
-      (sets out 0 (fed r m piece (length out)).out) (0 + length (fed r m piece (length out)).out)
-  comes = c.comes ∙ fed_long r m piece out long
-
-  pub came-read : f.read ≡ reads r m piece (length out)
-  came-read = ap (λ (o : Outcome). o.read) comes
-
-  pub came-replay : f.replay ≡ (fed r m piece (length out)).replay
-  came-replay = ap (λ (o : Outcome). o.replay) comes
-
-  pub came-pool : m2 ≡ (fed r m piece (length out)).pool
-  came-pool = ap (λ (o : Outcome). o.pool) comes
-
-  pub came-buffer : out2 ≡ sets out 0 (fed r m piece (length out)).out
-  came-buffer = ap (λ (o : Outcome). o.buffer) comes
-
-  pub came-written : f.written ≡ length (fed r m piece (length out)).out
-  came-written = ap (λ (o : Outcome). o.written) comes ∙ zero-add _
+      rw (le-leb 4096 (length m) h, e) (simp zero-add)
 
 -- past line 1 and not open
 pub over_now : {s : Stage} → is_first s ≡ false → (s ≡ Open → ⊥) → s ≡ Over
@@ -166,9 +145,6 @@ over_now {s = Open} e h = absurd (h refl)
 over_now {s = Over} e h = refl
 
 -- a feed whose buffer was lent on, and came back as it was left
-module _ {piece : List ℕ} {r : Replay} {m : List ℕ} {read : ℕ} {written : ℕ} {f : Fed} {m2 : List ℕ} where
-  pub came_back : {out left back : List ℕ} → back ≡ left → Came piece r m read out written f m2 left → Came piece r m read out written f m2 back
-  came_back e c = rw e c
-
-  pub came_from : {left back out : List ℕ} → back ≡ left → Came piece r m read back written f m2 out → Came piece r m read left written f m2 out
-  came_from e c = rw e at c
+pub came_back : {piece : List ℕ} {r : Replay} {m : List ℕ} {read : ℕ} {out : List ℕ} {written : ℕ} {f : Fed} {m2 left back : List ℕ}
+    → back ≡ left → Came piece r m read out written f m2 left → Came piece r m read out written f m2 back
+came_back e c = rw e c

@@ -56,11 +56,13 @@ module _ (piece : List ℕ) (r : Replay) (m : List ℕ) (read : ℕ) (out : List
 
     -- a later line that is malformed
     pub outcome-bad : r.stage ≡ Open → later_of (line_of r) ≡ None
-        → {out2 : List ℕ} {written2 : ℕ} → Wrote out written (bad_bytes r.number ++ end_bytes r.steps) out2 written2
-        → at (over r) m (length piece) out2 written2 ≡ outcome piece r m read out written
-    outcome-bad now e {out2} {written2} w =
-        outcome-over piece (over r) m (read + 1) out2 written2 (omega arith) refl
-        ∙ sym (outcome-comes piece r m read out written inside (rw now) room (byte_feed r m (get_or piece read 0) now feed ∙ later-bad r m (line_of r) e) w)
+        → {r2 : Replay} {out2 : List ℕ} {written2 : ℕ}
+        → r2 ≡ over r
+        → Wrote out written (bad_bytes r.number ++ end_bytes r.steps) out2 written2
+        → outcome piece r m read out written ≡ at r2 m (length piece) out2 written2
+    outcome-bad now e {r2} {out2} {written2} er w =
+        outcome-comes piece r m read out written inside (rw now) room (byte_feed r m (get_or piece read 0) now feed ∙ later-bad r m (line_of r) e) w
+        ∙ rw (← er) (sym (outcome-over piece r2 m (read + 1) out2 written2 (omega arith) (rw er)))
 
     -- a command of a thread
     pub outcome-heard : r.stage ≡ Open → {c : Command} → later_of (line_of r) ≡ Some c
