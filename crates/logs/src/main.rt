@@ -29,7 +29,8 @@ fn one(rt: &impl Files, alloc: Global, name: &mut [u8]) -> io::Result<&'static s
     })
 }
 
-// Whether there is such an argument. One that is too long for a path names no file.
+// Whether there is such an argument. One that is too long for a path names no file. (A buffer and its length: `env::args` gives
+// text, and a name need not be text.)
 fn named(rt: &(impl Env + Files), alloc: Global, out: Stdout, i: usize) -> io::Result<bool> {
     let mut path = [0u8; PATH_BYTES];
     let length = match rt.arg(i, &mut path) {

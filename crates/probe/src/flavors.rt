@@ -3,7 +3,7 @@ use journal::Replay;
 use ring::Flavor;
 use std::env::Env;
 
-// An argument that is not there, or longer than the buffer, names no thread.
+// An argument that is not there, or longer than the buffer, names no thread. (`env::args` has no such limit.)
 fn named(rt: &impl Env, argument: usize, digit: u8) -> bool {
     let mut word = [0u8; 64];
     match rt.arg(argument, &mut word) {

@@ -1,7 +1,8 @@
 // How the machine stands.
 use crate::stands::At;
 use journal::Replay;
-use state::Call;
+use ring::RING_CAP;
+use state::{Call, Queue};
 use std::fmt;
 use std::io::{Print, Stdout};
 
@@ -51,18 +52,23 @@ pub(crate) fn command(output: Stdout, replay: &Replay, pool: &[u64], number: u64
         .threads
         .get(thread as usize)
         .map_or((Call::Idle, 0), |thread| (thread.call, thread.ring.count));
-    let queue = replay.queue;
-    let taken = (0..queue.blocks)
+    let Queue {
+        head,
+        head_block,
+        tail,
+        tail_block,
+        blocks,
+        ..
+    } = replay.queue;
+    let taken = (0..blocks)
         .filter(|block| !memory::is_free(pool, *block))
         .count();
     let _ = println!(output;
-        "#\t{number}\t{thread}\t{}\t{}\t{}\t{}\t{}\t{}\t{taken}\t{count}",
+        "#\t{number}\t{thread}\t{}\t{}\t{}\t{head_block}\t{}\t{tail_block}\t{taken}\t{count}",
         At(call),
         replay.steps,
-        queue.head.raw,
-        queue.head_block,
-        queue.tail.raw,
-        queue.tail_block
+        head.raw,
+        tail.raw
     );
 }
 
@@ -76,16 +82,10 @@ pub(crate) fn at_end(output: Stdout, replay: Replay, pool: &[u64], out: &mut [u8
             let _ = println!(output; "#block\t{block}\t{}", Block { pool, block });
         }
     }
-    for (number, thread) in replay
-        .threads
-        .iter()
-        .enumerate()
-        .take(queue.threads as usize)
-    {
-        let ring = thread.ring;
-        let _ = println!(output;
-            "#ring\t{number}{}",
-            Row(&ring.tokens[..ring.count.min(64) as usize])
-        );
+    let threads = replay.threads.iter().take(queue.threads as usize);
+    for (number, thread) in threads.enumerate() {
+        let ring = &thread.ring;
+        let tokens = &ring.tokens[..ring.count.min(RING_CAP) as usize];
+        let _ = println!(output; "#ring\t{number}{}", Row(tokens));
     }
 }

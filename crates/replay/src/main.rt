@@ -58,6 +58,7 @@ fn replay_all(
     output.write_all(&out[..written])
 }
 
+// Arrays, and no `BufReader`: nothing is asked of the heap.
 fn main(rt: HostRuntime) -> io::Result<()> {
     let mut pool = [0u64; POOL_WORDS];
     let mut piece = [0u8; PIECE_BYTES];

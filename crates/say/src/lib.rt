@@ -1,5 +1,5 @@
-// What the test programs print with: bytes that need not be text, and answers in words. A write that fails goes unsaid here: what
-// is missing shows where the output is compared.
+// What the test programs print with: bytes that need not be text, and answers in words. A write that fails goes unsaid, here and
+// in the lines that the programs print themselves: what is missing shows where the output is compared.
 #![tactic(auto)]
 
 use state::Answer;
@@ -10,7 +10,7 @@ pub fn text(out: Stdout, bytes: &[u8]) {
     let _ = out.write_all(bytes);
 }
 
-// An answer in words.
+// An answer in words. It is no `Display` of the type itself, since the machine's crates print nothing.
 #[derive(Clone, Copy)]
 pub struct Said(pub Answer);
 
