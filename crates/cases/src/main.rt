@@ -25,7 +25,7 @@ use board::Board;
 use std::io;
 use std::io::{Print, Read, Stdout};
 
-// The words of the largest pool: 32 blocks of 128.
+// The words of the largest pool: 32 blocks of 128. (The replay library, which has this number, is no part of this program.)
 const POOL_WORDS: usize = 4096;
 
 // More cases than these bytes hold are not read.

@@ -47,7 +47,7 @@ fn feed_first(mut replay: Replay, pool: &mut [u64], piece: &[u8], out: &mut [u8]
         };
     }
     for (read, &byte) in piece.iter().enumerate() {
-        if byte == 10 {
+        if byte == b'\n' {
             let mut output = Output {
                 bytes: out,
                 written: 0,

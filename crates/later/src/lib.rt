@@ -31,7 +31,7 @@ pub fn feed_open(fed: Fed, pool: &mut [u64], piece: &[u8], out: &mut [u8]) -> Fe
             };
         }
         let byte = piece[read];
-        if byte != 10 {
+        if byte != b'\n' {
             hold(&mut replay, byte);
             continue;
         }

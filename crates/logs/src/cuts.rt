@@ -1,7 +1,5 @@
 // A log fed in pieces: no cut may change a byte of what comes out.
-
-// The words of the largest pool: 32 blocks of 128.
-const POOL_WORDS: usize = 4096;
+use journal::LARGEST_POOL;
 
 // A longer log is cut at its first bytes only, or the gate would wait for it.
 const MOST_CUTS: usize = 600;
@@ -33,7 +31,7 @@ fn same(pieces: &[&[u8]], expected: &[u8], pool: &mut [u64], out: &mut [u8]) -> 
 
 // Whole, and cut in two after each byte.
 pub(crate) fn all_same(log: &[u8], expected: &[u8]) -> bool {
-    let mut pool = [0; POOL_WORDS];
+    let mut pool = [0; LARGEST_POOL];
     let mut out = [0; OUT_BYTES];
     for cut in 0..MOST_CUTS.min(log.len() + 1) {
         let (front, back) = log.split_at(cut);
@@ -49,7 +47,7 @@ pub(crate) fn long_line_same() -> bool {
     let zeros = [0u8; PIECE_BYTES];
     let mut pieces = [&zeros[..]; 17];
     pieces[0] = b"queue\t1\t2\t1\n";
-    let mut pool = [0; POOL_WORDS];
+    let mut pool = [0; LARGEST_POOL];
     let mut out = [0; OUT_BYTES];
     same(
         &pieces,

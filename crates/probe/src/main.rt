@@ -7,10 +7,8 @@ mod flavors;
 mod shows;
 mod stands;
 
+use journal::LARGEST_POOL;
 use std::io;
-
-// The words of the largest pool: 32 blocks of 128.
-const POOL_WORDS: usize = 4096;
 
 // The most that is read at once.
 const PIECE_BYTES: usize = 65536;
@@ -19,7 +17,7 @@ const PIECE_BYTES: usize = 65536;
 const OUT_BYTES: usize = 4096;
 
 fn main(rt: HostRuntime) -> io::Result<()> {
-    let mut pool = [0u64; POOL_WORDS];
+    let mut pool = [0u64; LARGEST_POOL];
     let mut piece = [0u8; PIECE_BYTES];
     let mut out = [0u8; OUT_BYTES];
     let mut input = rt.stdin();

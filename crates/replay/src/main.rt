@@ -3,12 +3,9 @@
 
 ghost use Rattle.std.specs.Prelude.{◌≤◌, length};
 
-use journal::Replay;
+use journal::{LARGEST_POOL, Replay};
 use std::io;
 use std::io::{Read, Write};
-
-// The words of the largest pool: 32 blocks of 128.
-const POOL_WORDS: usize = 4096;
 
 // The most that is read at once, and the most that is written at once.
 const PIECE_BYTES: usize = 65536;
@@ -60,7 +57,7 @@ fn replay_all(
 
 // Arrays, and no `BufReader`: nothing is asked of the heap.
 fn main(rt: HostRuntime) -> io::Result<()> {
-    let mut pool = [0u64; POOL_WORDS];
+    let mut pool = [0u64; LARGEST_POOL];
     let mut piece = [0u8; PIECE_BYTES];
     let mut out = [0u8; PIECE_BYTES];
     let mut input = rt.stdin();
