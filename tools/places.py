@@ -61,7 +61,7 @@ def kinds():
         found = arms(body)
         if re.fullmatch(r"u\d+|usize", res.strip()) and len([1 for _, v in found if re.fullmatch(r"\d+", v)]) > 1:
             yield f"{name} {f}: a number for each case"
-        if len([1 for a, _ in found if re.match(r"\d+$|b'.'", a)]) > 1 or len(re.findall(r"letter [=!]= b'|letter < b'", body)) > 1:
+        if len([1 for a, _ in found if re.match(r"(Some\()?\d+\)?$|b'.'", a)]) > 1 or len(re.findall(r"letter [=!]= b'|letter < b'", body)) > 1:
             yield f"{name} {f}: cases of a number or a letter"
 
 
