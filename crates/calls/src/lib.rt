@@ -1,4 +1,5 @@
 // The list's items that a record's call carries: its block numbers, the indices it loaded, its claim and its slot.
+// Each match tells the cases of an enum and its test for each; none chooses a step to run.
 #![tactic(auto)]
 
 ghost use Rattle.std.specs.Prelude.{◌≡◌, ◌&&◌, ◌+◌, min, leb};

@@ -9,6 +9,7 @@ use state::{Answer, Call, Refusal, Thread};
 use std::fmt;
 
 // What the entry answered, where the line asks one.
+// What is said, refused or not, so it is no Result.
 #[derive(Clone, Copy)]
 pub(crate) enum Reply {
     Nothing,

@@ -21,7 +21,8 @@ pub(crate) enum Case {
     Row(u64),
 }
 
-// Another large letter, and what is no letter, asks nothing; another small one begins `empty`.
+// The one place where a letter becomes a case; no TryFrom, since any letter is taken. Another large letter, and what is no
+// letter, asks nothing; another small one begins `empty`.
 pub(crate) fn asked(line: Line) -> Case {
     let [first, second, third, ..] = line.numbers;
     let first = or_largest(first);

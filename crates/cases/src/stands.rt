@@ -4,6 +4,7 @@
 //   S line: limit or task, head index, block, slots claimed, slot or next block, flag
 //   L line: tail index, head index
 //   E line: head index
+// Here a letter and a number become a line, once for all, in a match each; no TryFrom, since any number is taken.
 use crate::reads::{Line, or_largest};
 use index::Index;
 use state::{Call, Claim, EmptyLine, Kind, LengthLine, PushLine, StealLine, Won};

@@ -1,5 +1,6 @@
 // The loads of a length, L1 to L3, and of an empty, E1 and E2: one function a line, one shared access each.
-// None touches the lent memory (machine, specs/CountLaws.antt).
+// None touches the lent memory (machine, specs/CountLaws.antt). L1, L2 and E1 load one word each and stay three: as one function
+// they would take the word and the line, and each is its definition's code.
 #![tactic(auto)]
 
 ghost use Rattle.std.specs.Prelude.{◌≡◌};

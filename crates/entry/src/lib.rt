@@ -1,5 +1,6 @@
 // BAD_SETUP, BAD_STATE, NO_THREAD: tested first by every entry that is handed a thread. Then IDLE, by an entry that goes
 // on with a call, or BUSY, by one that wants none open.
+// (Queue, pool, thread and number stand so in the signature of each public entry, and go on so.)
 #![tactic(auto)]
 
 ghost use Rattle.std.specs.Prelude.{◌≡◌};

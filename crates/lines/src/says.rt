@@ -1,5 +1,5 @@
 // What goes into the output. The room that is asked for is there: the library reads a byte, or ends, only where 256 bytes
-// are free.
+// are free (a type that has the room would be made anew for each byte).
 ghost use Rattle.std.specs.Prelude.{◌+◌, ◌≤◌, ◌++◌, length};
 ghost use Rattle.text.specs.Print.{bad_bytes, end_bytes, refused_bytes};
 ghost use Rattle.print.specs.Output.{Adds};

@@ -1,5 +1,6 @@
 // The BAD_STATE list, tested item by item in the order of its definition (state, specs/List.antt), and BAD_SETUP before it. Each
 // function answers true where its part of the list is not broken, and no test asks anything of what it is handed.
+// The match of `call_good` tells the kinds of calls, as those of `calls` tell lines; it chooses no step to run.
 #![tactic(auto)]
 
 ghost use Rattle.std.specs.Prelude.{◌≡◌};

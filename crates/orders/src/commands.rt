@@ -1,18 +1,12 @@
 // The commands of one thread, over the shared words and its record by value, and what is said of each.
 ghost use Rattle.std.specs.Prelude.{◌≡◌};
-ghost use Rattle.replayed.specs.Command.{refused_said, answer_said, began_said, popped_said, request_of, order_of};
+ghost use Rattle.replayed.specs.Command.{answer_said, began_said, popped_said, request_of, order_of};
 
 use machine::{Ran, Request};
 use places::thread_number;
 use replayed::{Done, Said};
 use state::{Answer, Queue, Refusal, Thread};
 use text::{Command, Word};
-
-fn refused_said(refusal: Refusal) -> Said
-    ensures { result ≡ refused_said refusal }
-{
-    Said::Numbered(Word::Refused, u64::from(refusal))
-}
 
 // `still` is what is said of a call that stays open.
 fn answer_said(still: Said, answer: Answer) -> Said
@@ -28,17 +22,17 @@ fn answer_said(still: Said, answer: Answer) -> Said
         Answer::Len(n) => Said::Numbered(Word::Len, n),
         Answer::Yes => Said::Plain(Word::Yes),
         Answer::No => Said::Plain(Word::No),
-        Answer::Refused(refusal) => refused_said(refusal),
+        Answer::Refused(refusal) => refusal.into(),
     }
 }
 
-// A begin that opens its call says nothing.
+// A begin that opens its call says nothing. (No From, here and below: the same Result might be said otherwise.)
 fn began_said(began: Result<(), Refusal>) -> Said
     ensures { result ≡ began_said began }
 {
     match began {
         Ok(()) => Said::Silent,
-        Err(refusal) => refused_said(refusal),
+        Err(refusal) => refusal.into(),
     }
 }
 
@@ -48,7 +42,7 @@ fn popped_said(popped: Result<Option<u64>, Refusal>) -> Said
     match popped {
         Ok(Some(token)) => Said::Numbered(Word::Task, token),
         Ok(None) => Said::Plain(Word::Nothing),
-        Err(refusal) => refused_said(refusal),
+        Err(refusal) => refusal.into(),
     }
 }
 

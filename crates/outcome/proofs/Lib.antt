@@ -36,6 +36,7 @@ pub mod Advance
 pub mod Step
 pub mod Going
 pub mod Run
+pub mod Replayed
 pub mod Lines
 pub mod Places
 pub mod Orders

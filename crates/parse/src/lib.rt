@@ -38,6 +38,7 @@ fn first_tab(line: &[u8]) -> Option<usize>
     line.iter().position(|b| *b == b'\t')
 }
 
+// One function for each count of numbers, as the definitions are: a command's case takes just its own.
 #[tactic(auto, using(crate::proofs::Words::words), unfolding(text::specs::Line::with_one))]
 fn with_one(word: &[u8], a: u64) -> Option<Command>
     ensures { result ≡ with_one word.now a }

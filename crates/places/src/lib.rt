@@ -7,6 +7,7 @@ ghost use Rattle.replayed.specs.Command.{thread_number};
 
 use text::Command;
 
+// (A part of a command, and so no From.)
 pub fn thread_number(command: Command) -> u64
     ensures { result ≡ thread_number command }
 {
@@ -25,7 +26,7 @@ pub fn thread_number(command: Command) -> u64
 }
 
 // Where the record of the command's thread stands. A number past the eighth names no record: the first is handed over,
-// and the entry refuses the number.
+// and the entry refuses the number, so it is no Option.
 pub fn place_of(command: Command) -> usize
     ensures value { result ≡ place_of (thread_number command) }
     ensures upper_bound { result < 8 }

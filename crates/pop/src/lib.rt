@@ -1,4 +1,5 @@
 // The owner's ring pop.
+// (Queue, pool, thread and number stand so in the signature of each public entry, and go on so.)
 #![tactic(auto)]
 
 ghost use Rattle.std.specs.Prelude.{◌≡◌};

@@ -1,6 +1,6 @@
 // Whole lines of the output: fields parted by tabs, and a line feed. A method that writes a line asks for the room of one,
-// LINE_ROOM bytes: its caller writes out what it has before less is left. No line is longer, so none asks how long its own
-// will be.
+// LINE_ROOM bytes: its caller writes out what it has before less is left (a type that has the room would be made anew for each
+// line). No line is longer, so none asks how long its own will be.
 ghost use Rattle.std.specs.Prelude.{◌≡◌, ◌+◌, ◌≤◌, length, [], ◌∷◌, ◌++◌};
 ghost use Rattle.text.specs.Number.{digits};
 ghost use Rattle.text.specs.Print.{word_bytes, line_bytes, line_number_bytes, bad_bytes, refused_bytes, end_bytes, queue_bytes};

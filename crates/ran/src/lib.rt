@@ -7,6 +7,7 @@ ghost use Rattle.state.specs.declared.Answer.TheVariants.{Refused};
 use machine::Ran;
 use state::{Answer, Queue, Refusal, Stepped, Thread};
 
+// (As `tabled::refused`, but with the thread: one literal each.)
 pub fn refused(q: Queue, thread: Thread, refusal: Refusal) -> Ran
     ensures { result ≡ record { queue = q; thread = thread; answer = Refused refusal; steps = 0 } }
 {

@@ -34,7 +34,7 @@ fn won_of(kind: Kind, taken: [u64; 63]) -> Won
     }
 }
 
-// The place of the first token that enters the ring.
+// The place of the first token that enters the ring: a place in `taken`, and no number of the kind.
 fn enters_from(kind: Kind) -> u64
     ensures { result ≡ spec.enters_from kind }
 {

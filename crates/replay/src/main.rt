@@ -10,7 +10,8 @@ use std::io::{Read, Write};
 // The most that is read at once, and the most that is written at once.
 const PIECE_BYTES: usize = 65536;
 
-// One feed leaves bytes unread where the buffer ran out of room: they are fed again, into the buffer written out.
+// One feed leaves bytes unread where the buffer ran out of room: they are fed again, into the buffer written out. (A while, with
+// no index: what is left shrinks by as much as a feed reads.)
 fn feed_all(
     mut replay: Replay,
     output: &mut impl Write,

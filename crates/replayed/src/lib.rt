@@ -1,7 +1,9 @@
 // What the replay of a log is: its definition, from the input's bytes to the output's (specs/), and its types.
 #![tactic(auto)]
 
-use state::{Queue, Thread};
+ghost use Rattle.std.specs.Prelude.{◌≡◌};
+
+use state::{Queue, Refusal, Thread};
 use text::Word;
 
 // A byte is read only where all that it may make has room in the lent buffer.
@@ -13,6 +15,16 @@ pub enum Said {
     Silent,
     Plain(Word),
     Numbered(Word, u64),
+}
+
+impl From<Refusal> for Said {
+    ghost use Rattle.replayed.specs.Command.{refused_said};
+
+    ghost from_gives = { λ refusal said. said ≡ refused_said refusal };
+
+    fn from(refusal: Refusal) -> Said {
+        Said::Numbered(Word::Refused, u64::from(refusal))
+    }
 }
 
 // What a command of one thread gives back.

@@ -1,5 +1,6 @@
 // A run of one thread. On a line where the thread can only wait nothing changes while it alone moves, so the
 // rest of the budget is counted in one go.
+// (Queue, pool, thread and number stand so in the signature of each public entry, and go on so.)
 #![tactic(auto)]
 
 ghost use Rattle.std.specs.Prelude.{◌≡◌, true, length};

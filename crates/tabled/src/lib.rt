@@ -31,6 +31,7 @@ impl From<Ran> for TableStep {
     }
 }
 
+// (As `ran::refused`, but with no thread: one literal each.)
 pub fn refused(q: Queue, number: Refusal) -> TableStep
     ensures { result ≡ refusal q number }
 {

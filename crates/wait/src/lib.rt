@@ -9,7 +9,7 @@ use index::Index;
 use memory::Mark;
 use state::{Call, PushLine, Queue, StealLine};
 
-// How a call waits, if it can only wait.
+// How a call waits, if it can only wait. (No Option of two cases: the definitions and lemmas tell three.)
 #[derive(Clone, Copy)]
 pub enum Wait {
     No,
