@@ -1,6 +1,6 @@
 // The commands of one thread, over the shared words and its record by value, and what is said of each.
 ghost use Rattle.std.specs.Prelude.{◌≡◌};
-ghost use Rattle.replayed.specs.Command.{answer_said, began_said, popped_said, request_of, order_of};
+ghost use Rattle.replayed.specs.Command.{answer_said, began_said, popped_said, begins, pops, steps_one, runs, request_of, order_of};
 
 use machine::{Ran, Request};
 use places::thread_number;
@@ -84,28 +84,48 @@ fn request_of(command: Command) -> Request
     }
 }
 
-// What a command of a thread does. Nobody asks it of a queue line. A step that leaves its call open says nothing; a run that
-// does has used its budget up, and says so.
+fn begin_one(q: Queue, pool: &[u64], thread: Thread, number: u64, what: Request) -> Done
+    ensures { result ≡ (begins q pool.now thread number what).done }
+{
+    let begun = begin::begin(q, pool, thread, number, what);
+    unmoved(q, begun.thread, began_said(begun.answer))
+}
+
+fn pop_one(q: Queue, pool: &[u64], thread: Thread, number: u64) -> Done
+    ensures { result ≡ (pops q pool.now thread number).done }
+{
+    let popped = pop::pop(q, pool, thread, number);
+    unmoved(q, popped.thread, popped_said(popped.answer))
+}
+
+// A step that leaves its call open says nothing.
+fn step_one(q: Queue, pool: &mut [u64], thread: Thread, number: u64) -> Done
+    ensures value { result ≡ (steps_one q pool.old thread number).done }
+    ensures pool_after { pool.new ≡ (steps_one q pool.old thread number).pool }
+{
+    ran_done(step::step(q, pool, thread, number), Said::Silent)
+}
+
+// A run that leaves its call open has used its budget up, and says so.
+fn run_one(q: Queue, pool: &mut [u64], thread: Thread, number: u64, budget: u64) -> Done
+    ensures value { result ≡ (runs q pool.old thread number budget).done }
+    ensures pool_after { pool.new ≡ (runs q pool.old thread number budget).pool }
+{
+    let ran = run::run(q, pool, thread, number, budget);
+    ran_done(ran, Said::Plain(Word::Open))
+}
+
+// What a command of a thread does. Nobody asks it of a queue line. Each kind is a function of its own, for speed: a function
+// clears the records of all its arms as it is entered. (A match on what is asked, which chooses no line of the step table.)
 pub(crate) fn obey(q: Queue, pool: &mut [u64], thread: Thread, command: Command) -> Done
     ensures value { result ≡ (order_of q pool.old thread command).done }
     ensures pool_after { pool.new ≡ (order_of q pool.old thread command).pool }
 {
     match command {
         Command::Queue(..) => unmoved(q, thread, Said::Silent),
-        Command::Pop(n) => {
-            let popped = pop::pop(q, pool, thread, n);
-            unmoved(q, popped.thread, popped_said(popped.answer))
-        }
-        Command::Step(n) => ran_done(step::step(q, pool, thread, n), Said::Silent),
-        Command::Run(n, budget) => {
-            ran_done(
-                run::run(q, pool, thread, n, budget),
-                Said::Plain(Word::Open),
-            )
-        }
-        _ => {
-            let begun = begin::begin(q, pool, thread, thread_number(command), request_of(command));
-            unmoved(q, begun.thread, began_said(begun.answer))
-        }
+        Command::Pop(n) => pop_one(q, pool, thread, n),
+        Command::Step(n) => step_one(q, pool, thread, n),
+        Command::Run(n, budget) => run_one(q, pool, thread, n, budget),
+        _ => begin_one(q, pool, thread, thread_number(command), request_of(command)),
     }
 }
