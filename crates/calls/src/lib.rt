@@ -8,6 +8,7 @@ ghost use Rattle.state.specs.List.{block_good, held_good, loaded_good, slot_good
 use index::Index;
 use state::{Claim, EmptyLine, Kind, LengthLine, PushLine, Queue, StealLine};
 
+// (A steal has no limit but an advance of 1; the or-pattern says it, here and below, and a function of the kind's limit is no plainer.)
 pub fn limit_good(kind: Kind) -> bool
     ensures { result ≡ limit_good kind }
 {

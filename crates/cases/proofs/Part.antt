@@ -1,3 +1,4 @@
+-- Nothing cites this now; it stands, since docs/PORT.md names it.
 -- The front of a row of records is taken off and put back by hand; what a row of 8 records and the answer with it are as plain data.
 use mathlib.Core.Path.{◌≡◌, refl, subst}
 use mathlib.Core.List.{List, [], ◌∷◌, ◌++◌, map}

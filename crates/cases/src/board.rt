@@ -63,7 +63,7 @@ pub(crate) struct Lent {
     pub(crate) table: [Thread; 8],
 }
 
-// The owner of a table lends the first `records` of it.
+// The owner of a table lends the first `records` of it. (An array and a count: its contract is over both.)
 pub(crate) fn lend(
     q: Queue,
     records: usize,

@@ -14,6 +14,7 @@ use machine::{ends, to};
 use span::same_position;
 use state::{Answer, Claim, Kind, Made, Queue, StealLine};
 
+// (Like the loads of `count`, but with its kind: one function of all would take the word and the line.)
 pub fn s1(q: Queue, kind: Kind) -> Made
     ensures { result ≡ (spec.s1 q kind).made }
 {
@@ -31,7 +32,7 @@ fn end_advance(kind: Kind, head: Index) -> u64
     }
 }
 
-// The advance with the tail as it was loaded.
+// The advance with the tail as it was loaded. (Not one with the other: each calls a function of its own, as its definition does.)
 fn advance_of(kind: Kind, head: Index, tail: Index) -> u64
     ensures { result ≡ spec.advance_of kind head tail }
 {

@@ -1,4 +1,5 @@
 // P8 to P10: the token into its slot, the slot's mark, and a block still held back to the pool.
+// Each function keeps its types: docs/ARCHITECTURE.md names it as its line's code.
 ghost use Rattle.std.specs.Prelude.{◌≡◌};
 ghost use Rattle.memory.specs.Touch.{after};
 ghost use Rattle.machine.specs.Push as spec;

@@ -32,6 +32,7 @@ fn is_idle(call: Call) -> bool
     matches!(call, Call::Idle)
 }
 
+// (Not one with `test_idle`: it would take a flag and a refusal.)
 #[tactic(auto, unfolding(crate::specs::Standing::tested_open))]
 pub fn test_open(q: Queue, pool: &[u64], thread: Thread, number: u64) -> Result<(), Refusal>
     ensures { result ≡ tested_open q pool.now thread number }

@@ -14,7 +14,8 @@ use replayed::ROOM;
 pub use replayed::{Fed, Replay, Stage};
 pub use whole::new;
 
-// No queue uses more of the lent words.
+// No queue uses more of the lent words. (No type that has them: `feed` is lent any slice, and pool, piece and buffer go on as they stand
+// in its signature.)
 pub const LARGEST_POOL: usize = 4096;
 
 // From a place of the piece on, with line 1 read. Once the replay is over, the rest of the piece is passed over.

@@ -11,7 +11,8 @@ use replayed::{Fed, ROOM};
 use whole::over;
 
 // From a place of the piece and of the buffer on. A malformed line ends the replay: the rest of the piece is passed over.
-// The library has looked at the stage, and hands places inside the piece and the buffer over.
+// The library has looked at the stage, and hands places inside the piece and the buffer over. (Pool, piece and buffer stand so in the
+// signature of `feed`, and go on so.)
 #[tactic(auto, using(crate::proofs::Bytes::bytes))]
 pub fn feed_open(fed: Fed, pool: &mut [u64], piece: &[u8], out: &mut [u8]) -> Fed
     requires { (fed.replay.stage ≡ Open) × (fed.read ≤ length piece.now) × (fed.written ≤ length out.old) }
@@ -22,6 +23,7 @@ pub fn feed_open(fed: Fed, pool: &mut [u64], piece: &[u8], out: &mut [u8]) -> Fe
         bytes: out,
         written: fed.written,
     };
+    // a range, and no iterator: the place is what is answered
     for read in fed.read..piece.len() {
         if output.bytes.len() - output.written < ROOM {
             return Fed {

@@ -9,6 +9,7 @@ ghost use Rattle.state.specs.List.{counts_good, setup_good, nexts_good, shared_g
 pub use calls::{limit_good, room_good};
 use state::{Call, Queue, Thread};
 
+// (Three numbers and no struct of them, as at setup, whose signature they are.)
 pub fn counts_good(threads: u64, blocks: u64, ceiling: u64) -> bool
     ensures { result ≡ counts_good threads blocks ceiling }
 {

@@ -1,4 +1,5 @@
 // P1 and P2: the loads of the tail.
+// Each function keeps its types: docs/ARCHITECTURE.md names it as its line's code. The match of `p2` tells cases and chooses no line.
 #![tactic(auto)]
 
 ghost use Rattle.std.specs.Prelude.{◌≡◌};

@@ -65,7 +65,8 @@ pub struct Given<T> {
     pub answer: Result<T, Refusal>,
 }
 
-// What a step or a run gives back; `steps` is the number of table lines made.
+// What a step or a run gives back; `steps` is the number of table lines made. (No generic of this and the replay's `Done`: one has
+// what was answered, the other what is said.)
 #[derive(Clone, Copy)]
 pub struct Ran {
     pub queue: Queue,

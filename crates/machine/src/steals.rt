@@ -1,4 +1,4 @@
-// Of a claim: its slots, and where the walk over them goes.
+// (Named as in the definitions, and no From: they are slots of a claim, not what it is.) Of a claim: its slots, and where the walk over them goes.
 ghost use Rattle.std.specs.Prelude.{◌≡◌, ◌≤◌};
 ghost use Rattle.machine.specs.Steal as spec;
 

@@ -33,6 +33,7 @@ pub fn has(word: u64, mark: Mark) -> bool
     word & bit(mark) != 0
 }
 
+// (Named for its equation; the cast is all there is.)
 fn bit(mark: Mark) -> u64
     ensures { result ≡ bit mark }
 {

@@ -94,7 +94,7 @@ pub fn pool_len(threads: u64, blocks: u64) -> u64
     blocks * BLOCK_WORDS
 }
 
-// The right length of the table of thread records.
+// The right length of the table of thread records. (Both lengths take both counts, as the definitions do: they are published so.)
 pub fn table_len(threads: u64, blocks: u64) -> u64
     ensures { result ≡ table_len threads blocks }
 {

@@ -10,7 +10,8 @@ use replayed::Replay;
 use whole::{opened, over};
 
 // The line that the replay holds is line 1. Counts out of range are echoed and refused, else the queue is set up.
-// The library has tested what is asked: as many lent words as the largest pool needs, and 256 free bytes.
+// The library has tested what is asked: as many lent words as the largest pool needs, and 256 free bytes (a type that has
+// the room would be made anew for each line).
 #[tactic(auto, using(crate::proofs::Room::lengths))]
 pub fn open_line(replay: &mut Replay, pool: &mut [u64], output: &mut Output<'_>)
     requires in_bounds { 4096 ≤ length pool.old }

@@ -8,7 +8,7 @@ use replayed::{Done, Said};
 use state::{Answer, Queue, Refusal, Thread};
 use text::{Command, Word};
 
-// `still` is what is said of a call that stays open.
+// `still` is what is said of a call that stays open. (The match tells cases, and chooses nothing to do.)
 fn answer_said(still: Said, answer: Answer) -> Said
     ensures { result ≡ answer_said still answer }
 {

@@ -9,7 +9,8 @@ use places::{place_of, thread_number};
 use replayed::{Replay, Stage};
 use text::Command;
 
-// A byte is read only where 256 bytes of the buffer are free, so the room that is asked for is there.
+// A byte is read only where 256 bytes of the buffer are free, so the room that is asked for is there (a type that has it would be made
+// anew for each line).
 #[tactic(auto, using(std::proofs::lemmas::List::take_min, std::proofs::lemmas::List::get_or_default))]
 pub fn hear(replay: &mut Replay, command: Command, pool: &mut [u64], output: &mut Output<'_>)
     requires { output.old.written + 256 ≤ length output.old.bytes.now }

@@ -26,7 +26,7 @@ pub fn thread_number(command: Command) -> u64
 }
 
 // Where the record of the command's thread stands. A number past the eighth names no record: the first is handed over,
-// and the entry refuses the number, so it is no Option.
+// and the entry refuses the number, so it is no Option; the definition `place_of` has it so.
 pub fn place_of(command: Command) -> usize
     ensures value { result ≡ place_of (thread_number command) }
     ensures upper_bound { result < 8 }

@@ -27,6 +27,7 @@ fn feed(
     next
 }
 
+// (Not one with the replay program's: what is done with a piece would be a closure that may fail and borrows the buffers.)
 // A proved loop has to end, and nothing says that the input does: it takes more turns than any run does.
 pub(crate) fn feed_all(
     rt: &impl Env,

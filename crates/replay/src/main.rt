@@ -33,6 +33,8 @@ fn feed_all(
     Ok(replay)
 }
 
+// (Not one with the probe's: what is done with a piece would be a closure that may fail and borrows the buffers. The pool is lent as
+// the library is lent it, with no type for its room.)
 // A proved loop has to end, and nothing says that the input does: it takes more turns than any run does.
 fn replay_all(
     input: &mut impl Read,

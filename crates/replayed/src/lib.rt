@@ -9,7 +9,7 @@ use text::Word;
 // A byte is read only where all that it may make has room in the lent buffer.
 pub const ROOM: usize = 256;
 
-// What is said of a command: nothing, a word, or a word with a number.
+// What is said of a command: nothing, a word, or a word with a number. (No Option: the definition `said_bytes` tells three cases.)
 #[derive(Clone, Copy)]
 pub enum Said {
     Silent,
@@ -27,7 +27,7 @@ impl From<Refusal> for Said {
     }
 }
 
-// What a command of one thread gives back.
+// What a command of one thread gives back. (No generic of this and `Ran`: one has what is said, the other what was answered.)
 #[derive(Clone, Copy)]
 pub struct Done {
     pub queue: Queue,
@@ -45,7 +45,8 @@ pub enum Stage {
 }
 
 // The replay between two reads. `held` bytes of the line were read, 81 where they are more than 80. (An array with a count: no
-// heap, and a line that is too long is told by it.)
+// heap, and a line that is too long is told by it, as the definitions `holds` and `line_as` have it. So are the records an array, of
+// which the first `queue.threads` are in use.)
 #[derive(Clone, Copy)]
 pub struct Replay {
     pub queue: Queue,

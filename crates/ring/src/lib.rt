@@ -27,6 +27,7 @@ pub struct RingPop {
 }
 
 impl Ring {
+    // (A constructor, and no From: a flavor is no ring.)
     pub fn new(flavor: Flavor) -> Ring
         ensures { result ≡ empty_ring flavor }
     {

@@ -1,3 +1,4 @@
+-- Nothing cites this now; it stands, since docs/PORT.md names it.
 -- The records that a walk by hand over the table would read and pass, as plain data (`tables`' `Data`).
 use Rattle.tables.proofs.Walk.{Data, struct_data}
 use Rattle.state.specs.contracts.Queue as Queue

@@ -111,6 +111,7 @@ pub enum Call {
     Empty(EmptyLine),
 }
 
+// Four impls: one by a macro of the repository's own is refused.
 impl From<PushLine> for Call {
     ghost use Rattle.state.specs.declared.Call.TheVariants.{Push};
 
@@ -151,7 +152,7 @@ impl From<EmptyLine> for Call {
     }
 }
 
-// A thread: its ring, where its call stands, and the tokens a claim has read but not yet handed over.
+// A thread: its ring, where its call stands, and the tokens a claim has read but not yet handed over (an array: no heap).
 #[derive(Clone, Copy)]
 pub struct Thread {
     pub ring: Ring,

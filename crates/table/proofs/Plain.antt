@@ -1,3 +1,4 @@
+-- Nothing cites this now; it stands, since docs/PORT.md names it.
 -- The records that a walk by hand through the table's entry would read, write, pass and return, as plain data (`tables`' `Data`).
 use Rattle.tables.proofs.Walk.{Data, Ok, struct_data, enum_data}
 use Rattle.tables.proofs.Fields.{variant_made}

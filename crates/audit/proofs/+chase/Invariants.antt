@@ -1,3 +1,4 @@
+-- What a loop keeps, or how it ends, is said here: the check finds no such thing by itself.
 use Rattle.audit.proofs.+chase.Given as goal
 
 abbrev pub decreases-chase : goal.decreases-chase

@@ -1,3 +1,4 @@
+-- What a loop keeps, or how it ends, is said here: the check finds no such thing by itself.
 use Rattle.text.proofs.Rows.{Reading}
 use Rattle.decimal.proofs.row.Given as goal
 

@@ -1,3 +1,4 @@
+-- Without these answers their goals stay open, or are open to a check at half its limits.
 use Rattle.std.proofs.Common.{sym, ◌∙◌, arith, rules}
 use Rattle.lines.proofs.Told.{wrote}
 use Rattle.replayed.proofs.Outcome.{came_back}

@@ -1,3 +1,4 @@
+-- What a loop keeps, or how it ends, is said here: the check finds no such thing by itself.
 use Rattle.std.proofs.Common.{◌≡◌, ◌≤◌, length}
 use Rattle.replayed.specs.declared.Stage.TheVariants.{Open}
 use Rattle.replayed.specs.Feed.{outcome}

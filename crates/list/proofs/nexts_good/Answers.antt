@@ -1,3 +1,4 @@
+-- Without these answers their goals stay open, or are open to a check at half its limits.
 use Rattle.std.proofs.Common.{◌≡◌, ℕ, suc, zero, ◌+◌, Bool, true, false, ◌&&◌, List, [], ◌∷◌, sym, ap, ◌∙◌, refl, arith, rules, add-one}
 use Rattle.std.specs.Prelude.{map}
 use Rattle.std.specs.List.{range_with_len, list_all}

@@ -1,3 +1,4 @@
+-- Without these answers their goals stay open, or are open to a check at half its limits.
 use Rattle.std.proofs.Common.{sym, ◌∙◌}
 use Rattle.lines.proofs.Told.{then}
 use Rattle.replayed.specs.Replay.{line_of}

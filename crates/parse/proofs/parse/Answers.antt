@@ -1,3 +1,4 @@
+-- Without these answers their goals stay open, or are open to a check at half its limits.
 use Rattle.std.proofs.Common.{arith, sym}
 use Rattle.text.proofs.Cases.{One, Two, one_le, two_le, no_third, too_many}
 use Rattle.parse.proofs.Places.{word, one, two, three}

@@ -1,3 +1,4 @@
+-- Without these answers their goals stay open, or are open to a check at half its limits.
 use Rattle.std.proofs.Common.{sym, ◌∙◌}
 use Rattle.machine.specs.EntryLaws.{pop-made}
 use Rattle.entry.specs.Standing.{is_vacant, pop-not-idle}

@@ -1,3 +1,4 @@
+-- Without these answers their goals stay open, or are open to a check at half its limits.
 use Rattle.std.proofs.Common.{rules, ◌≤◌, length}
 use Rattle.replayed.proofs.Kept.{reads-some}
 use Rattle.replay.proofs.feed_all.Goals as goal

@@ -1,3 +1,4 @@
+-- Without these answers their goals stay open, or are open to a check at half its limits.
 use Rattle.std.proofs.Common.{Bool, ◌&&◌, List, [], ◌∷◌, refl, ap, ◌∙◌, rules, ◌≡◌}
 use Rattle.std.specs.List.{list_all}
 use Rattle.std.proofs.lemmas.Iterator.{YieldsList-from_slice}

@@ -1,3 +1,4 @@
+-- Without these answers their goals stay open, or are open to a check at half its limits.
 use Rattle.std.proofs.Common.{◌≡◌, refl, sym, ◌∙◌, arith}
 use Rattle.machine.specs.TestLaws.{good-shared, good-tail}
 use Rattle.run.proofs.Going.{used_up, waited-out, stopped, goes_on}

@@ -1,3 +1,4 @@
+-- What a loop keeps, or how it ends, is said here: the check finds no such thing by itself.
 -- What is left of the budget runs from where the thread stands now.
 use Rattle.machine.specs.Step.{run_from}
 use Rattle.run.proofs.Going.{Going}

@@ -1,3 +1,4 @@
+-- Without these answers their goals stay open, or are open to a check at half its limits.
 use Rattle.std.proofs.Common.{refl, sym}
 use Rattle.entry.specs.Standing.{is_open, step-not_open}
 use Rattle.machine.specs.EntryLaws.{step-made}

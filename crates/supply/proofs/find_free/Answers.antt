@@ -1,3 +1,4 @@
+-- Without these answers their goals stay open, or are open to a check at half its limits.
 use Rattle.std.proofs.Common.{rules, ℕ, ◌≡◌, true, false}
 use Rattle.std.proofs.lemmas.Iterator.{first_from_Range}
 use Rattle.memory.specs.Layout.{is_free}

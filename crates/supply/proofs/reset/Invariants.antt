@@ -1,3 +1,4 @@
+-- What a loop keeps, or how it ends, is said here: the check finds no such thing by itself.
 use Rattle.std.proofs.Common.{◌≡◌, ◌-◌, ◌≤◌}
 use Rattle.memory.specs.Pool.{freed}
 use Rattle.supply.proofs.reset.Given as goal

@@ -1,3 +1,4 @@
+-- Without these answers their goals stay open, or are open to a check at half its limits.
 -- What `step_table` returns where every test passes, by `tabled`'s law of a step that is made. The record that the code
 -- reads within the table is the one that the definition reads.
 use Rattle.std.proofs.Common.{refl, sym, ap, ◌∙◌}
