@@ -6,7 +6,6 @@ ghost use Rattle.text.specs.Number.{digits};
 ghost use Rattle.text.specs.Print.{word_bytes, line_bytes, line_number_bytes, bad_bytes, refused_bytes, end_bytes, queue_bytes};
 ghost use Rattle.print.specs.Output.{Adds};
 
-use itoa::Buffer;
 use text::Word;
 
 // A lent buffer, and how many bytes are written at its front. (A write by std's Cursor answers a Result, though there is
@@ -58,7 +57,7 @@ impl Output<'_> {
         requires { self.old.written + 20 ≤ length self.old.bytes.now }
         ensures { Adds self.old (digits n) self.new }
     {
-        self.put(Buffer::new().format(n));
+        self.digits(n);
     }
 
     #[tactic(auto, using(crate::proofs::Pieces::pieces))]
@@ -68,6 +67,20 @@ impl Output<'_> {
         ensures { Adds self.old (word_bytes word) self.new }
     {
         self.put(spelt(word));
+    }
+
+    // The front digits first, those of n / 10, and then the last one.
+    #[tactic(auto, using(crate::proofs::Pieces::by_digits))]
+    fn digits(&mut self, n: u64)
+        requires { self.old.written + length (digits n) ≤ length self.old.bytes.now }
+        ensures { Adds self.old (digits n) self.new }
+    {
+        if n < 10 {
+            self.byte(b'0' + n as u8);
+        } else {
+            self.digits(n / 10);
+            self.byte(b'0' + (n % 10) as u8);
+        }
     }
 
     // What parts two fields, or ends a line.
