@@ -165,5 +165,5 @@ show("4 by hand what a derive or an impl says", hand())
 show("5 facts in three contracts or more, parameters that never stand apart", together())
 show("6 buffers with a length beside them", buffers())
 show("7 a switch on which step to run", switches())
-proofs = [p for p in (root / "crates").glob("*/proofs/*/*.antt")]
+proofs = [p for c in (root / "crates").iterdir() for p in (c / "proofs").rglob("*.antt") if p.name in ("Answers.antt", "Invariants.antt")]
 print("8 proof files of functions:", len(proofs), "with", sum(len(p.read_text().splitlines()) for p in proofs), "lines")
