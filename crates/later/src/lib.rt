@@ -5,9 +5,9 @@ ghost use Rattle.std.specs.Prelude.{◌≡◌, ◌≤◌, length};
 ghost use Rattle.replayed.specs.declared.Stage.TheVariants.{Open};
 ghost use Rattle.replayed.specs.Feed.{Came};
 
-use lines::{Output, hold, later_line, say_bad};
+use lines::{Output, hold_next, later_line, say_bad};
 use orders::hear;
-use replayed::{Fed, ROOM};
+use replayed::{Fed, ROOM, Replay};
 use whole::over;
 
 // From a place of the piece and of the buffer on. A malformed line ends the replay: the rest of the piece is passed over.
@@ -19,24 +19,28 @@ pub fn feed_open(fed: Fed, pool: &mut [u64], piece: &[u8], out: &mut [u8]) -> Fe
     ensures { Came piece.now fed.replay pool.old fed.read out.old fed.written result pool.new out.new }
 {
     let mut replay = fed.replay;
+    // beside the replay and the output: no byte but a line feed changes the room, and the count need not go through memory
+    let mut held = replay.held;
     let mut output = Output {
         bytes: out,
         written: fed.written,
     };
+    let mut room = output.bytes.len() - output.written;
     // a range, and no iterator: the place is what is answered
     for read in fed.read..piece.len() {
-        if output.bytes.len() - output.written < ROOM {
+        if room < ROOM {
             return Fed {
-                replay,
+                replay: Replay { held, ..replay },
                 read,
                 written: output.written,
             };
         }
         let byte = piece[read];
         if byte != b'\n' {
-            hold(&mut replay, byte);
+            held = hold_next(&mut replay.line, held, byte);
             continue;
         }
+        replay.held = held;
         let Some(command) = later_line(&replay) else {
             say_bad(&mut output, replay.number, replay.steps);
             return Fed {
@@ -46,9 +50,11 @@ pub fn feed_open(fed: Fed, pool: &mut [u64], piece: &[u8], out: &mut [u8]) -> Fe
             };
         };
         hear(&mut replay, command, pool, &mut output);
+        held = replay.held;
+        room = output.bytes.len() - output.written;
     }
     Fed {
-        replay,
+        replay: Replay { held, ..replay },
         read: piece.len(),
         written: output.written,
     }

@@ -1,21 +1,29 @@
 // The line that is being read: `replay.held` bytes of it stand in the replay's array of 80.
-ghost use Rattle.std.specs.Prelude.{◌≡◌};
+ghost use Rattle.std.specs.Prelude.{◌≡◌, ◌+◌, min, set};
 ghost use Rattle.replayed.specs.Replay.{holds, line_of};
 ghost use Rattle.replayed.specs.Feed.{later_of, opening_of};
 
 use replayed::Replay;
 use text::Command;
 
-// A byte is held, of a line that is too long no more than that it is.
+// A byte is held, of a line that is too long no more than that it is. Answers how many are held now: a loop over bytes has the
+// count beside the replay, so that it does not go through memory for each.
+pub fn hold_next(line: &mut [u8; 80], held: u64, byte: u8) -> u64
+    ensures value { result ≡ min (held + 1) 81 }
+    ensures line_after { line.new ≡ set line.old held byte }
+{
+    if held < 80 {
+        line[held as usize] = byte;
+        held + 1
+    } else {
+        81
+    }
+}
+
 pub fn hold(replay: &mut Replay, byte: u8)
     ensures { replay.new ≡ holds replay.old byte }
 {
-    if replay.held < 80 {
-        replay.line[replay.held as usize] = byte;
-        replay.held += 1;
-    } else {
-        replay.held = 81;
-    }
+    replay.held = hold_next(&mut replay.line, replay.held, byte);
 }
 
 // The line that was held, without its line feed.

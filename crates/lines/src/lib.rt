@@ -6,7 +6,7 @@ ghost use Rattle.std.specs.Prelude.{◌≡◌, ◌*◌, min};
 mod held;
 mod says;
 
-pub use held::{first_line, hold, later_line};
+pub use held::{first_line, hold, hold_next, later_line};
 pub use print::Output;
 pub use says::{say, say_bad, say_end, say_refused};
 

@@ -23,11 +23,11 @@ pub fn setup_good(q: Queue, len: u64) -> bool
     counts_good(q.threads, q.blocks, q.ceiling) && len == memory::pool_len(q.threads, q.blocks)
 }
 
-// Every block's next, of free blocks too.
+// Every block's next, of free blocks too, from the last down.
 pub fn nexts_good(pool: &[u64], blocks: u64) -> bool
     ensures { result ≡ nexts_good pool.now blocks blocks }
 {
-    (0..blocks).all(|n| memory::next(pool, n).is_none_or(|block| block < blocks))
+    (0..blocks).rev().all(|n| memory::next(pool, n).is_none_or(|block| block < blocks))
 }
 
 #[tactic(auto, unfolding(state::specs::List::shared_good))]

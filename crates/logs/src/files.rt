@@ -1,24 +1,44 @@
 // The files of a log.
-use std::alloc::Global;
+ghost use Rattle.std.specs.Prelude.{◌≤◌, IfOk, length};
+
 use std::fs::File;
 use std::io::Read;
 use std::rt::Files;
 use std::{io, str};
 
 // No log, and nothing that is owed for one, is longer.
-const FILE_BYTES: u64 = 65536;
+pub(crate) const FILE_BYTES: usize = 65536;
 
-// The file's bytes, where there is such a file.
-pub(crate) fn read(rt: &impl Files, alloc: Global, path: &[u8]) -> io::Result<Option<Vec<u8>>> {
+// Reads until the buffer is full or the input ends. (A while: `read_to_end` wants a `Vec`, and past `io::copy` into a `Cursor`
+// nothing says that it is still this buffer.)
+fn fill(input: &mut impl Read, buffer: &mut [u8]) -> io::Result<usize>
+    ensures { IfOk result (λ n. n ≤ length buffer.new) }
+{
+    let mut done = 0;
+    while done < buffer.len() {
+        let n = input.read(&mut buffer[done..])?;
+        if n == 0 {
+            break;
+        }
+        done += n;
+    }
+    Ok(done)
+}
+
+// The file's bytes, where there is such a file, in the front of the buffer. (Lent, and no `Vec`: nothing is asked of the heap.)
+pub(crate) fn read<'a>(
+    rt: &impl Files,
+    path: &[u8],
+    buffer: &'a mut [u8],
+) -> io::Result<Option<&'a [u8]>> {
     let Ok(name) = str::from_utf8(path) else {
         return Ok(None);
     };
-    let Ok(file) = File::open(rt, name) else {
+    let Ok(mut file) = File::open(rt, name) else {
         return Ok(None);
     };
-    let mut bytes = Vec::new(alloc);
-    file.take(FILE_BYTES).read_to_end(&mut bytes)?;
-    Ok(Some(bytes))
+    let read = fill(&mut file, buffer)?;
+    Ok(Some(&buffer[..read]))
 }
 
 // NAME.log becomes NAME.out.

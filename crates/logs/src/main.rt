@@ -4,7 +4,7 @@
 mod cuts;
 mod files;
 
-use std::alloc::Global;
+use files::FILE_BYTES;
 use std::env::{Env, FillError};
 use std::io;
 use std::io::{Print, Stdout};
@@ -18,20 +18,22 @@ fn verdict(same: bool) -> &'static str {
 }
 
 // The log of that name, and the file of the same name that ends in `out`.
-fn one(rt: &impl Files, alloc: Global, name: &mut [u8]) -> io::Result<&'static str> {
-    let log = files::read(rt, alloc, name)?;
+fn one(rt: &impl Files, name: &mut [u8]) -> io::Result<&'static str> {
+    let mut log = [0u8; FILE_BYTES];
+    let log = files::read(rt, name, &mut log)?;
     files::name_output(name);
-    let expected = files::read(rt, alloc, name)?;
+    let mut expected = [0u8; FILE_BYTES];
+    let expected = files::read(rt, name, &mut expected)?;
     Ok(match (log, expected) {
         (None, _) => "NO LOG",
         (_, None) => "NO OUTPUT",
-        (Some(log), Some(expected)) => verdict(cuts::all_same(&log, &expected)),
+        (Some(log), Some(expected)) => verdict(cuts::all_same(log, expected)),
     })
 }
 
 // Whether there is such an argument. One that is too long for a path names no file. (A buffer and its length: `env::args` gives
 // text, and a name need not be text.)
-fn named(rt: &(impl Env + Files), alloc: Global, out: Stdout, i: usize) -> io::Result<bool> {
+fn named(rt: &(impl Env + Files), out: Stdout, i: usize) -> io::Result<bool> {
     let mut path = [0u8; PATH_BYTES];
     let length = match rt.arg(i, &mut path) {
         Ok(length) => length,
@@ -40,7 +42,7 @@ fn named(rt: &(impl Env + Files), alloc: Global, out: Stdout, i: usize) -> io::R
     };
     let name = &mut path[..length];
     say::text(out, name);
-    let said = one(rt, alloc, name)?;
+    let said = one(rt, name)?;
     let _ = println!(out; "\t{said}");
     Ok(true)
 }
@@ -48,7 +50,7 @@ fn named(rt: &(impl Env + Files), alloc: Global, out: Stdout, i: usize) -> io::R
 fn main(rt: HostRuntime) -> io::Result<()> {
     let out = rt.stdout();
     for i in 1..usize::MAX {
-        if !named(&rt, rt.alloc(), out, i)? {
+        if !named(&rt, out, i)? {
             break;
         }
     }

@@ -9,7 +9,8 @@ ghost use Rattle.state.specs.Move as move;
 ghost use Rattle.machine.specs.Entry.{not_given};
 
 use state::{
-    Answer, Call, EmptyLine, Kind, LengthLine, Made, PushLine, Queue, Refusal, StealLine, Thread,
+    Answer, Call, EmptyLine, Kind, LengthLine, Line, Made, PushLine, Queue, Refusal, StealLine,
+    Thread,
 };
 
 pub mod steals;
@@ -92,9 +93,10 @@ pub fn not_given<T>(thread: Thread, refusal: Refusal) -> Given<T>
 }
 
 // A line's call goes on at a line of its own kind.
-pub fn to<L: Into<Call>>(q: Queue, line: L) -> Made
+pub fn to<L: Line>(q: Queue, line: L) -> Made
     ensures queue_value { result.queue ≡ q }
     ensures call_value { L.converts line result.call }
+    ensures call_equation { result.call ≡ L.call line }
     ensures answer_value { result.answer ≡ Open }
 {
     Made {

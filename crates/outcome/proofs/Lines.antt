@@ -16,6 +16,9 @@ later_line _ _ _ _ _ _ p q = (both p q, refl)
 pub hold : One lines.specs.contracts.hold.ended lines.proofs.hold.Reads.Learnt
 hold _ _ _ _ _ _ p q = (refl, first (both p q))
 
+pub hold_next : One lines.specs.contracts.hold_next.ended lines.proofs.hold_next.Reads.Learnt
+hold_next _ _ _ _ _ _ p q = (both p.0 q.0, first (both p.1 q.1))
+
 pub say : One lines.specs.contracts.say.ended lines.proofs.say.Reads.Learnt
 say _ _ _ _ _ _ p q = (refl, first (both p.0.value q.0.value))
 

@@ -1,18 +1,27 @@
--- Each public function of `machine` has one outcome at most. Of a generic one: for each type it is called with. `to` has one where
--- the type's way into a `Call` is an equation; that of each of the four kinds of lines is one (state, `from_gives`), and so it has
--- one outcome for each of them, with no premise.
+-- Each public function of `machine` has one outcome at most. Of a generic one: for each type it is called with. `to` is then
+-- stated again of the four types that have an `impl Line`, over what the code's own impls say.
 use mathlib.Core.Path.{◌≡◌, refl}
 use denote.RattleType.{RattleType}
-use Rattle.std.specs.declared.convert.Into.{Ghosts}
+use Rattle.std.specs.declared.convert.Into as convert
+use Rattle.std.specs.contracts.prelude.AnyInto.TheImpl as into
+use Rattle.state.specs.declared.Line as line
 use Rattle.state.specs.declared.Queue.{Queue}
 use Rattle.state.specs.declared.Call.{Call}
-use Rattle.state.specs.declared.Call.TheVariants.{Push, Steal, Length, Empty}
-use Rattle.state.specs.contracts.PushLine as push
-use Rattle.state.specs.contracts.StealLine as steal
-use Rattle.state.specs.contracts.LengthLine as length
-use Rattle.state.specs.contracts.EmptyLine as empty
 use Rattle.state.specs.declared.Answer.{Answer}
 use Rattle.state.specs.declared.Made.{Made}
+use Rattle.state.specs.contracts.Call as call
+use Rattle.state.specs.contracts.PushLine as push
+use Rattle.state.specs.contracts.PushLineLine.TheImpl as push_line
+use Rattle.state.specs.contracts.CallFromPushLine.TheImpl as from_push
+use Rattle.state.specs.contracts.StealLine as steal
+use Rattle.state.specs.contracts.StealLineLine.TheImpl as steal_line
+use Rattle.state.specs.contracts.CallFromStealLine.TheImpl as from_steal
+use Rattle.state.specs.contracts.LengthLine as length
+use Rattle.state.specs.contracts.LengthLineLine.TheImpl as length_line
+use Rattle.state.specs.contracts.CallFromLengthLine.TheImpl as from_length
+use Rattle.state.specs.contracts.EmptyLine as empty
+use Rattle.state.specs.contracts.EmptyLineLine.TheImpl as empty_line
+use Rattle.state.specs.contracts.CallFromEmptyLine.TheImpl as from_empty
 use Rattle.outcome.specs.One.{One}
 use Rattle.outcome.proofs.Equations.{both}
 use Rattle.machine as machine
@@ -24,24 +33,20 @@ made : {q q' : Queue} {c c' : Call} {a a' : Answer} → q ≡ q' → c ≡ c' �
     → ◌≡◌ {A = Made} (record { queue = q; call = c; answer = a }) (record { queue = q'; call = c'; answer = a' })
 made e f g = cc
 
-pub to : (L' : RattleType) (g : Ghosts L'.Denot Call) (d : _) (laws : _) → ((l : L'.Denot) (c c' : Call) → g.converts l c → g.converts l c' → c ≡ c') → One (machine.specs.contracts.to.ended L' g d) (machine.proofs.to.Reads.Learnt L' laws g d)
-to _ _ _ _ one _ _ _ _ _ _ p q = (made (both p.0 q.0) (one _ _ _ p.1.0 q.1.0) (both p.1.1 q.1.1), refl)
+pub to : (L' : RattleType) (laws : _) (line : line.Ghosts L'.Denot) (d : _) (into : convert.Ghosts L'.Denot Call) (e : _) → One (machine.specs.contracts.to.ended L' line d into e) (machine.proofs.to.Reads.Learnt L' laws line d into e)
+to _ _ _ _ _ _ _ _ _ _ _ _ p q = (made (both p.0 q.0) (both p.1.1.0 q.1.1.0) (both p.1.1.1 q.1.1.1), refl)
 
--- what the impls of the four say: the call is the line's
-abbrev pub into : {L : Type 0} → (L → Call) → Ghosts L Call
-into f = record { converts = λ l c. c ≡ f l }
+pub pushes_to : (laws : _) → One (machine.specs.contracts.to.ended push.the_row push_line.ghosts push_line.dict (into.ghosts push.the_row call.the_row from_push.ghosts from_push.dict) (into.dict push.the_row call.the_row from_push.ghosts from_push.dict)) (machine.proofs.to.Reads.Learnt push.the_row laws push_line.ghosts push_line.dict (into.ghosts push.the_row call.the_row from_push.ghosts from_push.dict) (into.dict push.the_row call.the_row from_push.ghosts from_push.dict))
+pushes_to laws = to push.the_row laws push_line.ghosts push_line.dict (into.ghosts push.the_row call.the_row from_push.ghosts from_push.dict) (into.dict push.the_row call.the_row from_push.ghosts from_push.dict)
 
-pub pushes_to : (d : _) (laws : _) → One (machine.specs.contracts.to.ended push.the_row (into Push) d) (machine.proofs.to.Reads.Learnt push.the_row laws (into Push) d)
-pushes_to d laws = to push.the_row (into Push) d laws (λ l c c' p q. both p q)
+pub steals_to : (laws : _) → One (machine.specs.contracts.to.ended steal.the_row steal_line.ghosts steal_line.dict (into.ghosts steal.the_row call.the_row from_steal.ghosts from_steal.dict) (into.dict steal.the_row call.the_row from_steal.ghosts from_steal.dict)) (machine.proofs.to.Reads.Learnt steal.the_row laws steal_line.ghosts steal_line.dict (into.ghosts steal.the_row call.the_row from_steal.ghosts from_steal.dict) (into.dict steal.the_row call.the_row from_steal.ghosts from_steal.dict))
+steals_to laws = to steal.the_row laws steal_line.ghosts steal_line.dict (into.ghosts steal.the_row call.the_row from_steal.ghosts from_steal.dict) (into.dict steal.the_row call.the_row from_steal.ghosts from_steal.dict)
 
-pub steals_to : (d : _) (laws : _) → One (machine.specs.contracts.to.ended steal.the_row (into Steal) d) (machine.proofs.to.Reads.Learnt steal.the_row laws (into Steal) d)
-steals_to d laws = to steal.the_row (into Steal) d laws (λ l c c' p q. both p q)
+pub lengths_to : (laws : _) → One (machine.specs.contracts.to.ended length.the_row length_line.ghosts length_line.dict (into.ghosts length.the_row call.the_row from_length.ghosts from_length.dict) (into.dict length.the_row call.the_row from_length.ghosts from_length.dict)) (machine.proofs.to.Reads.Learnt length.the_row laws length_line.ghosts length_line.dict (into.ghosts length.the_row call.the_row from_length.ghosts from_length.dict) (into.dict length.the_row call.the_row from_length.ghosts from_length.dict))
+lengths_to laws = to length.the_row laws length_line.ghosts length_line.dict (into.ghosts length.the_row call.the_row from_length.ghosts from_length.dict) (into.dict length.the_row call.the_row from_length.ghosts from_length.dict)
 
-pub lengths_to : (d : _) (laws : _) → One (machine.specs.contracts.to.ended length.the_row (into Length) d) (machine.proofs.to.Reads.Learnt length.the_row laws (into Length) d)
-lengths_to d laws = to length.the_row (into Length) d laws (λ l c c' p q. both p q)
-
-pub empties_to : (d : _) (laws : _) → One (machine.specs.contracts.to.ended empty.the_row (into Empty) d) (machine.proofs.to.Reads.Learnt empty.the_row laws (into Empty) d)
-empties_to d laws = to empty.the_row (into Empty) d laws (λ l c c' p q. both p q)
+pub empties_to : (laws : _) → One (machine.specs.contracts.to.ended empty.the_row empty_line.ghosts empty_line.dict (into.ghosts empty.the_row call.the_row from_empty.ghosts from_empty.dict) (into.dict empty.the_row call.the_row from_empty.ghosts from_empty.dict)) (machine.proofs.to.Reads.Learnt empty.the_row laws empty_line.ghosts empty_line.dict (into.ghosts empty.the_row call.the_row from_empty.ghosts from_empty.dict) (into.dict empty.the_row call.the_row from_empty.ghosts from_empty.dict))
+empties_to laws = to empty.the_row laws empty_line.ghosts empty_line.dict (into.ghosts empty.the_row call.the_row from_empty.ghosts from_empty.dict) (into.dict empty.the_row call.the_row from_empty.ghosts from_empty.dict)
 
 pub ends : One machine.specs.contracts.ends.ended machine.proofs.ends.Reads.Learnt
 ends _ _ _ _ _ _ p q = (both p q, refl)

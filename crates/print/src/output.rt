@@ -3,7 +3,7 @@
 // line). No line is longer, so none asks how long its own will be.
 ghost use Rattle.std.specs.Prelude.{◌≡◌, ◌+◌, ◌≤◌, length, [], ◌∷◌, ◌++◌};
 ghost use Rattle.text.specs.Number.{digits};
-ghost use Rattle.text.specs.Print.{word_bytes, line_bytes, line_number_bytes, bad_bytes, refused_bytes, end_bytes, queue_bytes};
+ghost use Rattle.text.specs.Print.{Wrote, word_bytes, line_bytes, line_number_bytes, bad_bytes, refused_bytes, end_bytes, queue_bytes};
 ghost use Rattle.print.specs.Output.{Adds};
 
 use text::Word;
@@ -18,6 +18,7 @@ pub struct Output<'a> {
 
 // Here and not as a method of Word: outcome's theorem, one answer for each public function, can't speak of a `&`.
 #[tactic(auto, unfolding(text::specs::Print::word_bytes))]
+#[inline(always)]
 fn spelt(word: Word) -> &'static str
     ensures { result.now ≡ word_bytes word }
 {
@@ -41,6 +42,7 @@ fn spelt(word: Word) -> &'static str
 
 impl Output<'_> {
     #[tactic(auto, using(crate::proofs::Pieces::pieces))]
+    #[inline(always)]
     fn put(&mut self, s: &str)
         // the caller has the room: a line's is asked for once, where the line begins
         requires { self.old.written + length s.now ≤ length self.old.bytes.now }
@@ -52,15 +54,17 @@ impl Output<'_> {
     }
 
     #[tactic(auto, using(crate::proofs::Pieces::pieces))]
+    #[inline(always)]
     pub fn number(&mut self, n: u64)
         // no number of 64 bits has more than 20 digits
         requires { self.old.written + 20 ≤ length self.old.bytes.now }
         ensures { Adds self.old (digits n) self.new }
     {
-        self.digits(n);
+        self.written = Self::digits(self.bytes, self.written, n);
     }
 
     #[tactic(auto, using(crate::proofs::Pieces::pieces))]
+    #[inline(always)]
     pub fn word(&mut self, word: Word)
         // no word has more than 7 letters
         requires { self.old.written + 7 ≤ length self.old.bytes.now }
@@ -69,22 +73,25 @@ impl Output<'_> {
         self.put(spelt(word));
     }
 
-    // The front digits first, those of n / 10, and then the last one.
+    // The front digits first, those of n / 10, and then the last one. The place goes from call to call: one kept in `self` would
+    // be stored and read anew for each digit.
     #[tactic(auto, using(crate::proofs::Pieces::by_digits))]
-    fn digits(&mut self, n: u64)
-        requires { self.old.written + length (digits n) ≤ length self.old.bytes.now }
-        ensures { Adds self.old (digits n) self.new }
+    fn digits(bytes: &mut [u8], at: usize, n: u64) -> usize
+        requires { at + length (digits n) ≤ length bytes.old }
+        ensures { Wrote bytes.old at (digits n) bytes.new result }
     {
         if n < 10 {
-            self.byte(b'0' + n as u8);
-        } else {
-            self.digits(n / 10);
-            self.byte(b'0' + (n % 10) as u8);
+            bytes[at] = b'0' + n as u8;
+            return at + 1;
         }
+        let last = Self::digits(bytes, at, n / 10);
+        bytes[last] = b'0' + (n % 10) as u8;
+        last + 1
     }
 
     // What parts two fields, or ends a line.
     #[tactic(auto, using(crate::proofs::Pieces::pieces))]
+    #[inline(always)]
     fn byte(&mut self, byte: u8)
         requires { self.old.written + 1 ≤ length self.old.bytes.now }
         ensures { Adds self.old (byte ∷ []) self.new }

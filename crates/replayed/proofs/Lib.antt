@@ -3,6 +3,7 @@ pub mod Outcome
 pub mod Orders
 pub mod Running
 pub mod Starting
+pub mod Fields
 pub mod Cuts
 pub mod Counts
 pub mod Kept

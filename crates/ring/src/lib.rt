@@ -42,6 +42,7 @@ impl Ring {
     // Batch and places stay three: for the slice of them the equation would be the longer `entered self batch.now 0 (length batch.now)`.
     // The step machine tests what is required on the list of broken states, before a call's tokens are handed over.
     #[tactic(auto, using(crate::proofs::Entering::enters))]
+    #[inline(always)]
     pub fn enter(self, batch: [u64; 63], first: u64, end: u64) -> Ring
         // the places are those of a claim, and a claim lies within one block of 63 slots
         requires first_le_end { (first ≤ end) × (end ≤ 63) }
@@ -76,21 +77,29 @@ impl Ring {
                 token: None,
             };
         };
-        let mut ring = Ring {
-            count: left,
-            ..self
-        };
-        let token = match self.flavor {
+        match self.flavor {
             Flavor::Fifo => {
+                let mut ring = self;
+                let oldest = ring.tokens[0];
                 ring.tokens.copy_within(1.., 0);
-                self.tokens[0]
+                ring.count = left;
+                RingPop {
+                    ring,
+                    token: Some(oldest),
+                }
             }
-            // a count past the ring's end reads 0
-            Flavor::Lifo => self.tokens.get(left as usize).copied().unwrap_or(0),
-        };
-        RingPop {
-            ring,
-            token: Some(token),
+            Flavor::Lifo => {
+                let tokens = self.tokens;
+                // a count past the ring's end reads 0
+                let newest = tokens.get(left as usize).copied().unwrap_or(0);
+                RingPop {
+                    ring: Ring {
+                        count: left,
+                        ..self
+                    },
+                    token: Some(newest),
+                }
+            }
         }
     }
 }

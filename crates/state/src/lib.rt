@@ -111,7 +111,17 @@ pub enum Call {
     Empty(EmptyLine),
 }
 
-// Four impls: one by a macro of the repository's own is refused.
+// A line, and by the law the one call that it is converted into: `Into` alone leaves the call open where a type's `From` says
+// nothing of it.
+pub trait Line: Into<Call> {
+    ghost use Rattle.state.specs.declared.Call.{Call};
+
+    ghost call: { Self → Call };
+
+    ghost is_call: { (line : Self) (into : Call) → Self.converts line into → into ≡ call line };
+}
+
+// Four types, two impls each: one by a macro of the repository's own is refused.
 impl From<PushLine> for Call {
     ghost use Rattle.state.specs.declared.Call.TheVariants.{Push};
 
@@ -120,6 +130,14 @@ impl From<PushLine> for Call {
     fn from(line: PushLine) -> Call {
         Call::Push(line)
     }
+}
+
+impl Line for PushLine {
+    ghost use Rattle.state.specs.declared.Call.TheVariants.{Push};
+
+    ghost call = { Push };
+
+    ghost is_call = { λ _ _ p. p };
 }
 
 impl From<StealLine> for Call {
@@ -132,6 +150,14 @@ impl From<StealLine> for Call {
     }
 }
 
+impl Line for StealLine {
+    ghost use Rattle.state.specs.declared.Call.TheVariants.{Steal};
+
+    ghost call = { Steal };
+
+    ghost is_call = { λ _ _ p. p };
+}
+
 impl From<LengthLine> for Call {
     ghost use Rattle.state.specs.declared.Call.TheVariants.{Length};
 
@@ -142,6 +168,14 @@ impl From<LengthLine> for Call {
     }
 }
 
+impl Line for LengthLine {
+    ghost use Rattle.state.specs.declared.Call.TheVariants.{Length};
+
+    ghost call = { Length };
+
+    ghost is_call = { λ _ _ p. p };
+}
+
 impl From<EmptyLine> for Call {
     ghost use Rattle.state.specs.declared.Call.TheVariants.{Empty};
 
@@ -150,6 +184,14 @@ impl From<EmptyLine> for Call {
     fn from(line: EmptyLine) -> Call {
         Call::Empty(line)
     }
+}
+
+impl Line for EmptyLine {
+    ghost use Rattle.state.specs.declared.Call.TheVariants.{Empty};
+
+    ghost call = { Empty };
+
+    ghost is_call = { λ _ _ p. p };
 }
 
 // A thread: its ring, where its call stands, and the tokens a claim has read but not yet handed over (an array: no heap).

@@ -130,6 +130,9 @@ module _ {l : List ℕ} {w : ℕ} (k : Word l w) where
         rest = whole l k.fits ∙ rw (fields-next l (λ e. k.more (k.ends ∙ e)), ← k.ends, add-one);
       }
 
+  pub word_le : w ≤ length l
+  word_le = omega (arith, k.ends, first_le l)
+
   cut : take w l ≡ first l
   cut = rw k.ends (first-take l)
 

@@ -4,5 +4,6 @@ pub mod Echo
 pub mod Examples
 pub mod Lengths
 pub mod Parting
+pub mod Passing
 pub mod Rows
 pub mod Writing

@@ -1,13 +1,15 @@
 -- The fields of a line, as a cursor meets them: what the first field is at a place, and what follows it.
-use Prim.Native.Nat.{ℕ, suc, ◌+◌, ◌≤◌}
+use Prim.Native.Nat.{ℕ, suc, ◌+◌, ◌≤◌, ◌<◌}
 use mathlib.Core.Path.{◌≡◌, refl, ap, ◌∙◌}
 use mathlib.Core.Bool.{Bool, true, false, cond}
 use mathlib.Core.List.{List, [], ◌∷◌}
 use native.Mathlib.Nat.{suc_inj}
+use native.Mathlib.Numerals.{add-one}
 use native.Mathlib.Omega.{arith}
-use lib.ListN.{length, take, drop, length-drop}
-use lib.Seq.{drop-drop}
+use lib.ListN.{length, get_or, take, drop, length-drop, drop_of_length-le}
+use lib.Seq.{drop-cons, drop-drop}
 use lib.Dec.{eqb}
+use borrow.Author.Tests.{eq-eqb, ne_eqb, eqb-true}
 use Rattle.std.proofs.Common.{rules, Decides}
 use Rattle.std.proofs.lemmas.Slice.Eq.{compares_Decides}
 use Rattle.text.specs.Line.{fields, first, same, prepend, behind}
@@ -79,3 +81,41 @@ module _ (l : List ℕ) (at : ℕ) (inside : at ≤ length l) where
 pub same-Decides : (a b : List ℕ) → Decides (same a b) (a ≡ b)
 unfolding same
 same-Decides = compares_Decides same (search rules)
+
+-- ---- two words, a byte at a time: laws that stand since docs/PORT.md names them
+
+pub same_length : (a b : List ℕ) → (length a ≡ length b → ⊥) → same a b ≡ false
+unfolding same
+same_length [] [] h = absurd (h refl)
+same_length [] (y ∷ ys) h = refl
+same_length (x ∷ xs) [] h = refl
+same_length (x ∷ xs) (y ∷ ys) h = go (eqb x y) (same_length xs ys (λ e. h (ap suc e)))
+  where
+    go : (b : Bool) → same xs ys ≡ false → cond b (same xs ys) false ≡ false
+    go true e = e
+    go false e = refl
+
+module _ (a b : List ℕ) (i : ℕ) where
+  pub same_end : length a ≤ i → length b ≤ i → same (drop i a) (drop i b) ≡ true
+  unfolding same
+  same_end h k = rw (drop_of_length-le a h, drop_of_length-le b k)
+
+  pub same-other : i < length a → i < length b → (get_or a i 0 ≡ get_or b i 0 → ⊥) → same (drop i a) (drop i b) ≡ false
+  unfolding same
+  same-other h k e = rw (drop-cons a i 0 h, drop-cons b i 0 k, ne_eqb (get_or a i 0) (get_or b i 0) e)
+
+  pub same_more : i < length a → i < length b → get_or a i 0 ≡ get_or b i 0
+      → same (drop i a) (drop i b) ≡ same (drop (i + 1) a) (drop (i + 1) b)
+  unfolding same
+  same_more h k e = rw (drop-cons a i 0 h, drop-cons b i 0 k, eq-eqb (get_or a i 0) (get_or b i 0) e, add-one)
+
+pub same_eq : (a b : List ℕ) → same a b ≡ true → a ≡ b
+unfolding same
+same_eq [] [] e = refl
+same_eq [] (y ∷ ys) e = cc
+same_eq (x ∷ xs) [] e = cc
+same_eq (x ∷ xs) (y ∷ ys) e = go (eqb x y) refl e (same_eq xs ys)
+  where
+    go : (b : Bool) → eqb x y ≡ b → cond b (same xs ys) false ≡ true → (same xs ys ≡ true → xs ≡ ys) → x ∷ xs ≡ y ∷ ys
+    go true q h k = let p : x ≡ y = eqb-true x y q in let t : xs ≡ ys = k h in cc
+    go false q h k = cc

@@ -1,13 +1,15 @@
 -- Bytes written one behind the other are written together.
-use Prim.Native.Nat.{ℕ, suc, ◌+◌, ◌≤◌}
+use Prim.Native.Nat.{ℕ, suc, ◌+◌, ◌/◌, ◌%◌, ◌≤◌}
 use mathlib.Core.Path.{◌≡◌, ap, ◌∙◌}
 use mathlib.Core.List.{List, [], ◌∷◌, ◌++◌}
 use native.Mathlib.Nat.{add-zero, zero-add}
 use native.Mathlib.Omega.{arith}
 use lib.ListN.{length, set, take, drop, length-append}
 use lib.Seq.{sets, length-sets, sets-eq, take_at, length-take-le}
+use Rattle.text.specs.Number.{digits}
 use Rattle.text.specs.Print.{Wrote, word_bytes}
 use Rattle.text.specs.declared.Word.{Word}
+use Rattle.text.proofs.Digits.{digits_long}
 
 pub sets_append : (l : List ℕ) (i : ℕ) (xs ys : List ℕ) → sets l i (xs ++ ys) ≡ sets (sets l i xs) (i + length xs) ys
 sets_append l i [] ys = rw add-zero
@@ -19,6 +21,13 @@ module _ {l : List ℕ} {at : ℕ} {xs m : List ℕ} {next : ℕ} (w : Wrote l a
   pub kept : length m ≡ length l
   kept = ap length w.buffer ∙ length-sets l at xs
 
+  pub byte : (b : ℕ) → Wrote l at (xs ++ (b ∷ [])) (set m next b) (next + 1)
+  byte b =
+      record {
+        buffer = rw (sets_append, w.buffer, w.place);
+        place = rw length-append (omega (arith, w.place));
+      }
+
   pub then : {ys n : List ℕ} {end : ℕ} → Wrote m next ys n end → Wrote l at (xs ++ ys) n end
   then {ys} {n} {end} v =
       record {
@@ -29,6 +38,11 @@ module _ {l : List ℕ} {at : ℕ} {xs m : List ℕ} {next : ℕ} (w : Wrote l a
 -- what is written at a buffer's front
 pub at_front : {l xs m : List ℕ} {next : ℕ} → Wrote l 0 xs m next → (m ≡ sets l 0 xs) × (next ≡ length xs)
 at_front {l} {xs} {m} {next} w = (w.buffer, w.place ∙ zero-add (length xs))
+
+-- a number's last digit, written behind the digits of n / 10: a law that stands since docs/PORT.md names it
+pub wrote_long : {l m : List ℕ} {at next : ℕ} (n : ℕ) → 10 ≤ n → Wrote l at (digits (n / 10)) m next
+    → Wrote l at (digits n) (set m next (48 + n % 10)) (next + 1)
+wrote_long n h w = rw (digits_long n h) (byte w (48 + n % 10))
 
 -- ---- words, and how long they are
 

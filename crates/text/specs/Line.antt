@@ -1,7 +1,7 @@
 -- A line of the replay text, as the bytes before its line feed, and the command that it is.
 use Rattle.std.specs.Prelude.{ℕ, ◌+◌, Bool, true, false, cond, List, [], ◌∷◌, length, drop, leb, eqb, Option, Some, None}
 use Rattle.text.specs.Ascii.{ascii}
-use Rattle.text.specs.Number.{number}
+use Rattle.text.specs.Number.{worth, bounded, number}
 use Rattle.text.specs.declared.Command.{Command}
 use Rattle.text.specs.declared.Command.TheVariants.{Queue, Push, Steal, Batch, Take, Len, Empty, Pop, Step, Run}
 
@@ -88,3 +88,7 @@ behind line at = at + length (first (drop at line))
 
 abbrev pub number_at : List ℕ → ℕ → Option (ℕ × ℕ)
 number_at line at = placed (behind line at) (number (first (drop at line)))
+
+-- the same of a field that has a digit other than 0 in front
+abbrev pub row_at : List ℕ → ℕ → Option (ℕ × ℕ)
+row_at line at = placed (behind line at) (bounded (worth 0 (first (drop at line))))
