@@ -7,7 +7,7 @@ ghost use Rattle.replayed.specs.Feed.{Came};
 
 use lines::{Output, hold_next, later_line, say_bad};
 use orders::hear;
-use replayed::{Fed, ROOM, Replay};
+use replayed::{Fed, ROOM};
 use whole::over;
 
 // From a place of the piece and of the buffer on. A malformed line ends the replay: the rest of the piece is passed over.
@@ -29,8 +29,9 @@ pub fn feed_open(fed: Fed, pool: &mut [u64], piece: &[u8], out: &mut [u8]) -> Fe
     // a range, and no iterator: the place is what is answered
     for read in fed.read..piece.len() {
         if room < ROOM {
+            replay.held = held;
             return Fed {
-                replay: Replay { held, ..replay },
+                replay,
                 read,
                 written: output.written,
             };
@@ -53,8 +54,9 @@ pub fn feed_open(fed: Fed, pool: &mut [u64], piece: &[u8], out: &mut [u8]) -> Fe
         held = replay.held;
         room = output.bytes.len() - output.written;
     }
+    replay.held = held;
     Fed {
-        replay: Replay { held, ..replay },
+        replay,
         read: piece.len(),
         written: output.written,
     }
