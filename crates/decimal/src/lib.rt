@@ -21,6 +21,7 @@ pub fn read_number(line: &[u8], at: usize) -> Option<(u64, usize)>
 // largest is found before it would wrap.
 #[tactic(auto, using(crate::proofs::Ends::row_ends))]
 fn read_row(line: &[u8], at: usize) -> Option<(u64, usize)>
+    // `line.get(at..)` has said so: past the end the answer's place would not be the line's end
     requires { at ≤ length line.now }
     ensures { result ≡ row_at line.now at }
 {

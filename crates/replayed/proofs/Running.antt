@@ -18,11 +18,11 @@ use Rattle.replayed.specs.Feed.{is_over, later_of, outcome}
 use Rattle.replayed.proofs.Outcome.{at, outcome-comes, outcome-over}
 use Rattle.replayed.proofs.Orders.{later-good, later-bad}
 
-unwritten : (out : List ℕ) (written : ℕ) → Wrote out written [] out written
+pub unwritten : (out : List ℕ) (written : ℕ) → Wrote out written [] out written
 unwritten out written = record { buffer = refl; place = sym (add-zero written) }
 
 module _ (r : Replay) (m : List ℕ) (b : ℕ) where
-  byte_feed : {s : Stage} → r.stage ≡ s → b ≡ 10 → byte_told r m b ≡ line_feed s r m
+  pub byte_feed : {s : Stage} → r.stage ≡ s → b ≡ 10 → byte_told r m b ≡ line_feed s r m
   unfolding byte_told
   byte_feed now e = rw (eq-eqb b 10 e, now)
 
