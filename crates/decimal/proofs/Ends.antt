@@ -1,8 +1,11 @@
 -- where a number's field ends, and where its row of digits does, as what is left of the line shows it
-use Rattle.std.proofs.Common.{arith, sym, ap, ◌∙◌, ◌≡◌, ℕ, ◌+◌, ◌-◌, ◌*◌, ◌^◌, ◌<◌, ◌≤◌, List, length, get_or, drop, Some, None, take_all, length-drop}
+use Rattle.std.proofs.Common.{arith, refl, sym, ap, ◌∙◌, ◌≡◌, ◌==◌, ℕ, ◌+◌, ◌-◌, ◌*◌, ◌^◌, ◌<◌, ◌≤◌, Bool, true, false, not, cond, List, [], ◌∷◌, length, get_or, drop, take, take_while, Some, None, take_all, length-drop}
 use Rattle.std.proofs.lemmas.List.{get_or-drop}
+use Rattle.std.proofs.lemmas.List.Sums.{take_while-cons}
 use Rattle.std.specs.List.{slice_range}
-use Rattle.text.specs.Line.{number_at, row_at}
+use Rattle.text.specs.Line.{first, behind, number_at, row_at}
+use Rattle.text.specs.Number.{number}
+use Rattle.text.proofs.Parting.{first_le, first-take}
 use Rattle.text.proofs.Passing.{Reading, number-end, number-tab, number-row, zero_more, zero-tab, zero-end, reading-none, reading-end, reading_tab, reading-low, reading-high, reading-past, reading-more}
 
 -- what is left of a line from a place on
@@ -54,3 +57,44 @@ module _ {l : List ℕ} {at i v : ℕ} (r : Reading l at i v) (inside : i < leng
   row-more e h = rw e (reading-more r inside no_tab low high (omega (arith, e)))
 
 pub ruleset row_ends = (reading-none, reading-end, reading_tab, reading-low, reading-high, row-past)
+
+-- ---- a field as its length shows it, with the number that it is: public laws that nothing here cites
+
+first_is : (l : List ℕ) → take_while (λ b. not (b == 9)) l ≡ first l
+unfolding first
+first_is [] = refl
+first_is (x ∷ xs) = rw (take_while-cons (λ b. not (b == 9)) x xs, first_is xs) (go (x == 9))
+  where
+    go : (b : Bool) → cond (not b) (x ∷ first xs) [] ≡ cond b [] (x ∷ first xs)
+    go true = refl
+    go false = refl
+
+pub outside : (line : List ℕ) (at : ℕ) → length line < at → None ≡ number_at line at
+outside line at h = number-end line at (omega arith)
+
+-- the rest of a line from a place on, and how long its first field is
+pub record Field (line : List ℕ) (at : ℕ) (rest : List ℕ) (n : ℕ) : Type 0 where
+  pub part : rest ≡ slice_range line at (length line)
+  pub len : n ≡ length (take_while (λ b. not (b == 9)) rest)
+
+module _ {line : List ℕ} {at : ℕ} {rest : List ℕ} {n : ℕ} (f : Field line at rest n) where
+  left : Left line at rest
+  left = record { part = f.part }
+
+  whole : rest ≡ drop at line
+  whole = rest_is left
+
+  field_is : take n rest ≡ first (drop at line)
+  field_is = rw (f.len, first_is rest, whole) (first-take (drop at line))
+
+  pub field_le : n ≤ length rest
+  field_le = rw (f.len, first_is rest) (first_le rest)
+
+  behind_is : behind line at ≡ at + n
+  behind_is = rw (f.len, first_is rest, whole)
+
+  pub no_number : None ≡ number (take n rest) → None ≡ number_at line at
+  no_number e = rw (← field_is, ← e)
+
+  pub number_found : {v : ℕ} → Some v ≡ number (take n rest) → Some (v, at + n) ≡ number_at line at
+  number_found e = rw (behind_is, ← field_is, ← e)
