@@ -6,6 +6,7 @@ use Rattle.std.specs.List.{slice_range}
 use Rattle.text.specs.Line.{first, behind, number_at, row_at}
 use Rattle.text.specs.Number.{number}
 use Rattle.text.proofs.Parting.{first_le, first-take}
+use Rattle.text.proofs.Rows as rows
 use Rattle.text.proofs.Passing.{Reading, number-end, number-tab, number-row, zero_more, zero-tab, zero-end, reading-none, reading-end, reading_tab, reading-low, reading-high, reading-past, reading-more}
 
 -- what is left of a line from a place on
@@ -43,8 +44,6 @@ module _ {l : List ℕ} {at : ℕ} {rest : List ℕ} (left : Left l at rest) whe
   pub row_first : 1 ≤ length rest → (get_or rest 0 0 ≡ 9 → ⊥) → (get_or rest 0 0 ≡ 48 → ⊥) → row_at l at ≡ number_at l at
   row_first h e f = number-row l at (omega (arith, len)) (λ q. e (byte-0 ∙ q)) (λ q. f (byte-0 ∙ q))
 
-pub ruleset field_ends = (number-end, none_left, tab_first, zero_alone, zero_tab, zero_first, row_first)
-
 -- a digit, as the checked arithmetic takes it
 module _ {l : List ℕ} {at i v : ℕ} (r : Reading l at i v) (inside : i < length l) (low : 48 ≤ get_or l i 0) (high : get_or l i 0 ≤ 57) where
   no_tab : get_or l i 0 ≡ 9 → ⊥
@@ -56,9 +55,7 @@ module _ {l : List ℕ} {at i v : ℕ} (r : Reading l at i v) (inside : i < leng
   pub row-more : {w : ℕ} → w ≡ v * 10 + (get_or l i 0 - 48) → w < 2 ^ 64 → Reading l at (i + 1) w
   row-more e h = rw e (reading-more r inside no_tab low high (omega (arith, e)))
 
-pub ruleset row_ends = (reading-none, reading-end, reading_tab, reading-low, reading-high, row-past)
-
--- ---- a field as its length shows it, with the number that it is: public laws that nothing here cites
+-- ---- a field as its length shows it, with the number that it is: public laws, for a number read from the field cut out
 
 first_is : (l : List ℕ) → take_while (λ b. not (b == 9)) l ≡ first l
 unfolding first
@@ -98,3 +95,9 @@ module _ {line : List ℕ} {at : ℕ} {rest : List ℕ} {n : ℕ} (f : Field lin
 
   pub number_found : {v : ℕ} → Some v ≡ number (take n rest) → Some (v, at + n) ≡ number_at line at
   number_found e = rw (behind_is, ← field_is, ← e)
+
+-- ---- what `read_number` and `read_row` are proved by; and behind that what another crate, which reads a field cut out, has by these names
+
+pub ruleset field_ends = (number-end, none_left, tab_first, zero_alone, zero_tab, zero_first, row_first, outside, field_le, no_number, number_found)
+
+pub ruleset row_ends = (reading-none, reading-end, reading_tab, reading-low, reading-high, row-past, rows.reading-none, rows.reading-end, rows.reading-low, rows.reading-high, rows.reading-past, rows.reading-more)
